@@ -1,0 +1,7 @@
+use mathlib.Core.Path.{refl}
+use native.Mathlib.Omega.{arith}
+use Rattle.std.proofs.shelf.Lists.{length-map, length-take}
+use Rattle.plan.proofs.table.SlotTable.count.Needs as need
+
+pub returns : need.returns
+returns c = record { value = simp (length-map, length-take) (omega arith); held = refl; few = omega arith }
