@@ -1,0 +1,4 @@
+pub mod Cycle
+pub mod Least
+pub mod Sums
+pub mod Slots
