@@ -1,0 +1,13 @@
+pub mod Sums
+pub mod Searches
+pub mod Ranks
+pub mod Words
+pub mod Levels
+pub mod Rest
+pub mod Jobs
+pub mod Next
+pub mod Rows
+pub mod Invariant
+pub mod Steps
+pub mod History
+pub mod Law

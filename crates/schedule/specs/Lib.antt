@@ -1,0 +1,9 @@
+pub mod Numbers
+pub mod Counting
+pub mod State
+pub mod Test
+pub mod Order
+pub mod Calls
+pub mod Entries
+pub mod Shift
+pub mod Examples
