@@ -1,0 +1,4 @@
+pub mod Laid
+pub mod Pieces
+pub mod Listing
+pub mod Refusals
