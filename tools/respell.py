@@ -13,8 +13,8 @@ import re
 import sys
 
 WORD = r"[A-Za-z0-9_'\-]"
-# a signature at the head of a line; a record's field is indented
-SIGNATURE = re.compile(r"^(?:abbrev |unfoldable )?(?:pub )?([a-z][A-Za-z0-9_'\-]*) :(?!:) ?(.*)$")
+# a signature, also one inside a module; a field of a record
+SIGNATURE = re.compile(r"^ *(?:abbrev |unfoldable )?(?:pub )?([a-z][A-Za-z0-9_'\-]*) :(?!:) ?(.*)$")
 FIELD = re.compile(r"^ +(?:pub )?([a-z][A-Za-z0-9_'\-]*) : (.*)$")
 LEMMAS = {"tick-answer": "tick_answer_lem", "level-answer": "level_answer_lem", "two-tasks": "two_tasks_lem"}
 MADE = re.compile(r"^(goal|given|need)\b")

@@ -59,8 +59,8 @@ module _ (old keys : List ℕ) (kept at key : ℕ) (stays : ℕ → Bool) (so : 
   stays_same b h x e = ap stays (sym (is ∙ so.rest at (omega arith) ∙ eqb-true (get_or old at 0) x e)) ∙ h
 
   -- the key at the next place does not pass, and is left behind those that are kept
-  filtered-drop : (n : ℕ) → stays key ≡ false → Sorted old n → at < n → Filtered old (set keys kept key) kept (at + 1) stays
-  filtered-drop n fails whole below =
+  filtered_drop : (n : ℕ) → stays key ≡ false → Sorted old n → at < n → Filtered old (set keys kept key) kept (at + 1) stays
+  filtered_drop n fails whole below =
       record {
         sorted = record { room = length-set keys kept key ∙ so.sorted.room; few = so.sorted.few; ordered = in_order };
         le = omega (arith, so.le);
@@ -74,8 +74,8 @@ module _ (old keys : List ℕ) (kept at key : ℕ) (stays : ℕ → Bool) (so : 
       in_order p q h = omega (arith, get_or-set_other keys kept q key 0 (λ r. omega (arith, h.1)), get_or-set_other keys kept p key 0 (λ r. omega (arith, h.0, h.1)), so.sorted.ordered p q h)
 
   -- it passes, and is kept
-  filtered-keep : (n : ℕ) → stays key ≡ true → Sorted old n → at < n → Filtered old (set keys kept key) (kept + 1) (at + 1) stays
-  filtered-keep n pass whole below =
+  filtered_keep : (n : ℕ) → stays key ≡ true → Sorted old n → at < n → Filtered old (set keys kept key) (kept + 1) (at + 1) stays
+  filtered_keep n pass whole below =
       record {
         sorted = record { room = length-set keys kept key ∙ so.sorted.room; few = omega (arith, so.le, whole.few); ordered = λ p q h. in_order p q h.0 h.1 (cases_eq q kept) };
         le = omega (arith, so.le);
@@ -108,12 +108,12 @@ module _ (old keys : List ℕ) (kept at key : ℕ) (stays : ℕ → Bool) (so : 
       in_order p q less h (inr ne) = omega (arith, get_or-set_other keys kept q key 0 ne, get_or-set_other keys kept p key 0 (λ r. omega arith), so.sorted.ordered p q (less, omega arith))
 
   -- the step over the key at the next place
-  pub filtered-more : (n next : ℕ) → Sorted old n → at < n → next ≡ kept + bool_byte (stays key) → Filtered old (set keys kept key) next (at + 1) stays
-  filtered-more n next whole below e = go (cases_Bool (stays key))
+  pub filtered_more : (n next : ℕ) → Sorted old n → at < n → next ≡ kept + bool_byte (stays key) → Filtered old (set keys kept key) next (at + 1) stays
+  filtered_more n next whole below e = go (cases_Bool (stays key))
     where
       go : (stays key ≡ true) ⊎ (stays key ≡ false) → Filtered old (set keys kept key) next (at + 1) stays
-      go (inl t) = subst (λ k. Filtered old (set keys kept key) k (at + 1) stays) (sym (e ∙ rw t refl)) (filtered-keep n t whole below)
-      go (inr f) = subst (λ k. Filtered old (set keys kept key) k (at + 1) stays) (sym (e ∙ rw f (omega arith))) (filtered-drop n f whole below)
+      go (inl t) = subst (λ k. Filtered old (set keys kept key) k (at + 1) stays) (sym (e ∙ rw t refl)) (filtered_keep n t whole below)
+      go (inr f) = subst (λ k. Filtered old (set keys kept key) k (at + 1) stays) (sym (e ∙ rw f (omega arith))) (filtered_drop n f whole below)
 
 -- the first n keys with a free place: those behind it have moved up by one, and are sooner than the key that is put in
 pub record Opened (old keys : List ℕ) (at n key : ℕ) : Type 0 where
@@ -148,14 +148,14 @@ module _ (old keys : List ℕ) (at n key : ℕ) (so : Opened old keys at n key) 
   abbrev closed : ℕ → ℕ
   closed p = get_or (set keys at key) p 0
 
-  closed-before : (p : ℕ) → p < at → closed p ≡ get_or old p 0
-  closed-before p h = get_or-set_other keys at p key 0 (λ e. omega arith) ∙ so.before p h
+  closed_before : (p : ℕ) → p < at → closed p ≡ get_or old p 0
+  closed_before p h = get_or-set_other keys at p key 0 (λ e. omega arith) ∙ so.before p h
 
   closed_at : closed at ≡ key
   closed_at = get_or-set_same keys at key 0 (omega (arith, so.le, so.room))
 
-  closed-behind : (p : ℕ) → at ≤ p → p < n → closed (p + 1) ≡ get_or old p 0
-  closed-behind p h l = get_or-set_other keys at (p + 1) key 0 (λ e. omega arith) ∙ so.behind p h l
+  closed_behind : (p : ℕ) → at ≤ p → p < n → closed (p + 1) ≡ get_or old p 0
+  closed_behind p h l = get_or-set_other keys at (p + 1) key 0 (λ e. omega arith) ∙ so.behind p h l
 
   later : (p : ℕ) → p < at → key < get_or old p 0
   later p h = go (cases_eq (get_or old p 0) key) (cases_eq p (at - 1))
@@ -168,21 +168,21 @@ module _ (old keys : List ℕ) (at n key : ℕ) (so : Opened old keys at n key) 
       go (inr ne) (inl e) = let same : get_or old p 0 ≡ get_or old (at - 1) 0 = ap (λ k. get_or old k 0) e in omega (arith, same, last, ne)
       go (inr ne) (inr o) = omega (arith, last, whole.ordered p (at - 1) (omega arith, omega (arith, so.le)))
 
-  closed-up : (q : ℕ) → at < q → q < n + 1 → closed q ≡ get_or old (q - 1) 0
-  closed-up q h l = ap closed (omega arith) ∙ closed-behind (q - 1) (omega arith) (omega arith)
+  closed_up : (q : ℕ) → at < q → q < n + 1 → closed q ≡ get_or old (q - 1) 0
+  closed_up q h l = ap closed (omega arith) ∙ closed_behind (q - 1) (omega arith) (omega arith)
 
-  pub closed-sorted : Sorted (set keys at key) (n + 1)
-  closed-sorted = record { room = length-set keys at key ∙ so.room; few = omega arith; ordered = λ p q h. go p q h.0 h.1 (cases_order q at) (cases_order p at) }
+  pub closed_sorted : Sorted (set keys at key) (n + 1)
+  closed_sorted = record { room = length-set keys at key ∙ so.room; few = omega arith; ordered = λ p q h. go p q h.0 h.1 (cases_order q at) (cases_order p at) }
     where
       go : (p q : ℕ) → p < q → q < n + 1 → (q ≡ at) ⊎ ((q < at) ⊎ (at < q)) → (p ≡ at) ⊎ ((p < at) ⊎ (at < p)) → closed q < closed p
-      go p q less h (inl e) o = omega (arith, ap closed e, closed_at, closed-before p (omega arith), later p (omega arith))
-      go p q less h (inr (inl l)) o = omega (arith, closed-before q l, closed-before p (omega arith), whole.ordered p q (less, omega (arith, so.le)))
-      go p q less h (inr (inr l)) (inl e) = omega (arith, closed-up q l h, ap closed e, closed_at, so.sooner (q - 1) (omega arith) (omega arith))
-      go p q less h (inr (inr l)) (inr (inl b)) = omega (arith, closed-up q l h, closed-before p b, whole.ordered p (q - 1) (omega arith, omega arith))
-      go p q less h (inr (inr l)) (inr (inr b)) = omega (arith, closed-up q l h, closed-up p b (omega arith), whole.ordered (p - 1) (q - 1) (omega arith, omega arith))
+      go p q less h (inl e) o = omega (arith, ap closed e, closed_at, closed_before p (omega arith), later p (omega arith))
+      go p q less h (inr (inl l)) o = omega (arith, closed_before q l, closed_before p (omega arith), whole.ordered p q (less, omega (arith, so.le)))
+      go p q less h (inr (inr l)) (inl e) = omega (arith, closed_up q l h, ap closed e, closed_at, so.sooner (q - 1) (omega arith) (omega arith))
+      go p q less h (inr (inr l)) (inr (inl b)) = omega (arith, closed_up q l h, closed_before p b, whole.ordered p (q - 1) (omega arith, omega arith))
+      go p q less h (inr (inr l)) (inr (inr b)) = omega (arith, closed_up q l h, closed_up p b (omega arith), whole.ordered (p - 1) (q - 1) (omega arith, omega arith))
 
-  pub closed-holds : (x : ℕ) → among (set keys at key) (n + 1) x ≡ (eqb key x || among old n x)
-  closed-holds x =
+  pub closed_holds : (x : ℕ) → among (set keys at key) (n + 1) x ≡ (eqb key x || among old n x)
+  closed_holds x =
       same_from_decides (among (set keys at key) (n + 1) x) (eqb key x || among old n x)
       (Decides-like (among (set keys at key) (n + 1) x) there back (among_place (set keys at key) x (n + 1)))
       (Decides-or (eqb key x) (among old n x) (Decides-eqb key x) (among_place old x n))
@@ -192,13 +192,13 @@ module _ (old keys : List ℕ) (at n key : ℕ) (so : Opened old keys at n key) 
         where
           go : (w.0 ≡ at) ⊎ ((w.0 < at) ⊎ (at < w.0)) → (key ≡ x) ⊎ ((p : ℕ) × (p < n) × (get_or old p 0 ≡ x))
           go (inl e) = inl (sym closed_at ∙ ap closed (sym e) ∙ w.2)
-          go (inr (inl l)) = inr (w.0, omega (arith, so.le), sym (closed-before w.0 l) ∙ w.2)
-          go (inr (inr l)) = inr (w.0 - 1, omega (arith, w.1), sym (closed-up w.0 l w.1) ∙ w.2)
+          go (inr (inl l)) = inr (w.0, omega (arith, so.le), sym (closed_before w.0 l) ∙ w.2)
+          go (inr (inr l)) = inr (w.0 - 1, omega (arith, w.1), sym (closed_up w.0 l w.1) ∙ w.2)
 
       back : (key ≡ x) ⊎ ((p : ℕ) × (p < n) × (get_or old p 0 ≡ x)) → (p : ℕ) × (p < n + 1) × (closed p ≡ x)
       back (inl e) = (at, omega (arith, so.le), closed_at ∙ e)
       back (inr w) = go (cases_lt w.0 at)
         where
           go : (w.0 < at) ⊎ (at ≤ w.0) → (p : ℕ) × (p < n + 1) × (closed p ≡ x)
-          go (inl l) = (w.0, omega (arith, w.1), closed-before w.0 l ∙ w.2)
-          go (inr l) = (w.0 + 1, omega (arith, w.1), closed-behind w.0 l w.1 ∙ w.2)
+          go (inl l) = (w.0, omega (arith, w.1), closed_before w.0 l ∙ w.2)
+          go (inr l) = (w.0 + 1, omega (arith, w.1), closed_behind w.0 l w.1 ∙ w.2)

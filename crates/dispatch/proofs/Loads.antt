@@ -21,9 +21,9 @@ held_times r times held =
     (leb-true _ _ two.0, leb-true _ _ three.0, leb-true _ _ three.1)
 
 module _ (slot : ℕ → TaskRow) (times : (i : ℕ) → carded (slot i) ≡ true) (k : ℕ) (held : (slot k).held ≡ true) where
-  one-few : (i : ℕ) → others slot k (charge (slot k).deadline) i ≤ 8192
+  one_few : (i : ℕ) → others slot k (charge (slot k).deadline) i ≤ 8192
   unfolding charge
-  one-few i = go (cases_Bool ((slot i).held && not (eqb i k)))
+  one_few i = go (cases_Bool ((slot i).held && not (eqb i k)))
     where
       go : (((slot i).held && not (eqb i k)) ≡ true) ⊎ (((slot i).held && not (eqb i k)) ≡ false) → others slot k (charge (slot k).deadline) i ≤ 8192
       go (inl e) =
@@ -32,9 +32,9 @@ module _ (slot : ℕ → TaskRow) (times : (i : ℕ) → carded (slot i) ≡ tru
           rw e (omega (arith, charge_few (slot k).deadline (slot i).run (slot i).period (omega (arith, other)), own, other))
       go (inr e) = rw e (omega arith)
 
-  pub load-few : load slot k ≤ 262144
+  pub load_few : load slot k ≤ 262144
   unfolding sum
-  load-few = omega (arith, sum_le 32 (others slot k (charge (slot k).deadline)) (λ _. 8192) (λ i _. one-few i))
+  load_few = omega (arith, sum_le 32 (others slot k (charge (slot k).deadline)) (λ _. 8192) (λ i _. one_few i))
 
 -- a row with another job: its card stays
 abbrev pub Rejobbed : TaskRow → TaskRow → Type 0
@@ -44,8 +44,8 @@ module _ (slot slot' : ℕ → TaskRow) (same : (i : ℕ) → Rejobbed (slot i) 
   held_stays : (slot' k).held ≡ (slot k).held
   held_stays = ap (λ r. r.held) (same k).2
 
-  load-stays : load slot' k ≡ load slot k
-  load-stays = sum_same 32 _ _ (λ i _. one i)
+  load_stays : load slot' k ≡ load slot k
+  load_stays = sum_same 32 _ _ (λ i _. one i)
     where
       one : (i : ℕ) → others slot' k (charge (slot' k).deadline) i ≡ others slot k (charge (slot k).deadline) i
       one i =
@@ -53,13 +53,13 @@ module _ (slot slot' : ℕ → TaskRow) (same : (i : ℕ) → Rejobbed (slot i) 
           ∙ ap (λ r. cond (r.held && not (eqb i k)) (charge (slot k).deadline r) 0) (same i).2
           ∙ ap (λ x. cond ((slot i).held && not (eqb i k)) x 0) (charge_card (slot k).deadline (slot i) (same i).0 (same i).1)
 
-  pub loaded-stays : (loads : List ℕ) → (k < 32 → (slot k).held ≡ true → get_or loads k 0 ≡ load slot k) → k < 32 → (slot' k).held ≡ true → get_or loads k 0 ≡ load slot' k
-  loaded-stays loads old below held = old below (sym held_stays ∙ held) ∙ sym load-stays
+  pub loaded_stays : (loads : List ℕ) → (k < 32 → (slot k).held ≡ true → get_or loads k 0 ≡ load slot k) → k < 32 → (slot' k).held ≡ true → get_or loads k 0 ≡ load slot' k
+  loaded_stays loads old below held = old below (sym held_stays ∙ held) ∙ sym load_stays
 
 -- one task more, at a number that was free
 module _ (slot : ℕ → TaskRow) (id : ℕ) (new : TaskRow) (below : id < 32) (free : (slot id).held ≡ false) (held : new.held ≡ true) where
-  pub load-more : (k : ℕ) → (k ≡ id → ⊥) → load (put slot id new) k ≡ load slot k + charge (slot k).deadline new
-  load-more k other =
+  pub load_more : (k : ℕ) → (k ≡ id → ⊥) → load (put slot id new) k ≡ load slot k + charge (slot k).deadline new
+  load_more k other =
       ap (λ r. sum 32 (others (put slot id new) k (charge r.deadline))) (put_other slot id new k other)
       ∙ sum_grown 32 (others slot k f) (others (put slot id new) k f) id (f new) below here there
     where
@@ -72,8 +72,8 @@ module _ (slot : ℕ → TaskRow) (id : ℕ) (new : TaskRow) (below : id < 32) (
       there : (i : ℕ) → i < 32 → (i ≡ id → ⊥) → others (put slot id new) k f i ≡ others slot k f i
       there i _ ne = ap (λ r. cond (r.held && not (eqb i k)) (f r) 0) (put_other slot id new i ne)
 
-  pub load-own : load (put slot id new) id ≡ sum 32 (others slot id (charge new.deadline))
-  load-own =
+  pub load_own : load (put slot id new) id ≡ sum 32 (others slot id (charge new.deadline))
+  load_own =
       ap (λ r. sum 32 (others (put slot id new) id (charge r.deadline))) (put_same slot id new id refl)
       ∙ sum_same 32 _ _ (λ i _. go i (cases_eq i id))
     where
@@ -94,8 +94,8 @@ module _ (slot : ℕ → TaskRow) (loads : List ℕ) (k : ℕ) (full : length lo
       go (inl e) = rw e (get_or-set_same loads k v 0 (omega arith) ∙ is)
       go (inr ne) = get_or-set_other loads k i v 0 ne ∙ old i (omega arith) held
 
-  pub passed-by : (slot k).held ≡ false → (i : ℕ) → i < k + 1 → (slot i).held ≡ true → get_or loads i 0 ≡ want i
-  passed-by none i less held = go (cases_eq i k)
+  pub passed_by : (slot k).held ≡ false → (i : ℕ) → i < k + 1 → (slot i).held ≡ true → get_or loads i 0 ≡ want i
+  passed_by none i less held = go (cases_eq i k)
     where
       go : (i ≡ k) ⊎ (i ≡ k → ⊥) → get_or loads i 0 ≡ want i
       go (inl e) = absurd (true≢false (sym held ∙ ap (λ n. (slot n).held) e ∙ none))
@@ -116,12 +116,12 @@ none_adds slot id n k free = cond-false _ _ 0 (and_left (slot k).held _ free)
 
 -- the loads with a new task's own among them
 module _ (slot : ℕ → TaskRow) (id own : ℕ) (new : TaskRow) (loads : List ℕ) (full : length loads ≡ 32) (below : id < 32) (free : (slot id).held ≡ false) (held : new.held ≡ true) (own_is : own ≡ sum 32 (others slot id (charge new.deadline))) (others-are : (i : ℕ) → i < 32 → (slot i).held ≡ true → get_or loads i 0 ≡ load slot i + charge (slot i).deadline new) where
-  pub with-own : (k : ℕ) → k < 32 → (put slot id new k).held ≡ true → get_or (set loads id own) k 0 ≡ load (put slot id new) k
-  with-own k less there = go (cases_eq k id)
+  pub with_own : (k : ℕ) → k < 32 → (put slot id new k).held ≡ true → get_or (set loads id own) k 0 ≡ load (put slot id new) k
+  with_own k less there = go (cases_eq k id)
     where
       go : (k ≡ id) ⊎ (k ≡ id → ⊥) → get_or (set loads id own) k 0 ≡ load (put slot id new) k
-      go (inl e) = rw e (get_or-set_same loads id own 0 (omega arith) ∙ own_is ∙ sym (load-own slot id new below free held))
+      go (inl e) = rw e (get_or-set_same loads id own 0 (omega arith) ∙ own_is ∙ sym (load_own slot id new below free held))
       go (inr ne) =
           get_or-set_other loads id k own 0 ne
           ∙ others-are k less (ap (λ r. r.held) (sym (put_other slot id new k ne)) ∙ there)
-          ∙ sym (load-more slot id new below free held k ne)
+          ∙ sym (load_more slot id new below free held k ne)

@@ -63,9 +63,9 @@ module _ (slot : ℕ → TaskRow) (keys : List ℕ) (n : ℕ) (kept : Kept slot 
       go (inr (inl l)) = lt-ltb _ _ (omega (arith, w.2, kept.sorted.ordered p w.0 (l, w.1))) ∙ sym (lt-ltb p w.0 l)
       go (inr (inr l)) = le-ltb _ _ (omega (arith, w.2, kept.sorted.ordered w.0 p (l, h))) ∙ sym (le-ltb p w.0 (omega arith))
 
-  last-place : (p i : ℕ) → p + 1 ≡ n → i < 32 → (unfinished (slot i) ≡ true) ⊎ (unfinished (slot i) ≡ false) → sooner p i ≡ false
-  last-place p i e h (inr f) = and_left _ _ f
-  last-place p i e h (inl u) = let w = place_of i h u in and_right _ _ (behind p i (omega arith) w ∙ le-ltb p w.0 (omega (arith, w.1)))
+  last_place : (p i : ℕ) → p + 1 ≡ n → i < 32 → (unfinished (slot i) ≡ true) ⊎ (unfinished (slot i) ≡ false) → sooner p i ≡ false
+  last_place p i e h (inr f) = and_left _ _ f
+  last_place p i e h (inl u) = let w = place_of i h u in and_right _ _ (behind p i (omega arith) w ∙ le-ltb p w.0 (omega (arith, w.1)))
 
   other_place : (p i : ℕ) → p + 1 < n → i < 32 → (i ≡ id_of (get_or keys (p + 1) 0) → ⊥) → (unfinished (slot i) ≡ true) ⊎ (unfinished (slot i) ≡ false) → sooner p i ≡ sooner (p + 1) i
   other_place p i l h ne (inr f) = rw f refl
@@ -77,9 +77,9 @@ module _ (slot : ℕ → TaskRow) (keys : List ℕ) (n : ℕ) (kept : Kept slot 
           let same : ltb p w.0 ≡ ltb (p + 1) w.0 = grind (arith, nat_tests) in
           ap (λ b. unfinished (slot i) && b) (behind p i (omega arith) w ∙ same ∙ sym (behind (p + 1) i l w))
 
-  below-place : (j p : ℕ) → p + j + 1 ≡ n → below slot (get_or keys p 0) ≡ j
-  below-place zero p e = sum_same 32 _ (λ _. 0) (λ i h. ap (λ b. cond b 1 0) (last-place p i (omega arith) h (cases_Bool (unfinished (slot i))))) ∙ sum_zero 32
-  below-place (suc j) p e =
+  below_place : (j p : ℕ) → p + j + 1 ≡ n → below slot (get_or keys p 0) ≡ j
+  below_place zero p e = sum_same 32 _ (λ _. 0) (λ i h. ap (λ b. cond b 1 0) (last_place p i (omega arith) h (cases_Bool (unfinished (slot i))))) ∙ sum_zero 32
+  below_place (suc j) p e =
       let k : ℕ = id_of (get_or keys (p + 1) 0) in
       let next = at_place (p + 1) (omega arith) in
       let less = kept.sorted.ordered p (p + 1) (omega arith, omega arith) in
@@ -88,15 +88,15 @@ module _ (slot : ℕ → TaskRow) (keys : List ℕ) (n : ℕ) (kept : Kept slot 
       let step : below slot (get_or keys p 0) ≡ below slot (get_or keys (p + 1) 0) + 1 =
       sum_grown 32 (λ i. cond (sooner (p + 1) i) 1 0) (λ i. cond (sooner p i) 1 0) k 1
       (number_below (get_or keys (p + 1) 0)) (rw (now, not_yet) refl) (λ i h ne. ap (λ b. cond b 1 0) (other_place p i (omega arith) h ne (cases_Bool (unfinished (slot i))))) in
-      omega (arith, step, below-place j (p + 1) (omega arith))
+      omega (arith, step, below_place j (p + 1) (omega arith))
 
   -- as many are ranked before a job as there are keys behind its own
-  pub rank-place : (p i : ℕ) → p < n → i < 32 → get_or keys p 0 ≡ key_of i (slot i) → rank slot i + p + 1 ≡ n
-  rank-place p i h l e = omega (arith, rank_below slot i l, ap (below slot) e, below-place (n - p - 1) p (omega arith))
+  pub rank_place : (p i : ℕ) → p < n → i < 32 → get_or keys p 0 ≡ key_of i (slot i) → rank slot i + p + 1 ≡ n
+  rank_place p i h l e = omega (arith, rank_below slot i l, ap (below slot) e, below_place (n - p - 1) p (omega arith))
 
   -- there is a free place while a job is finished
-  pub room-left : (id : ℕ) → id < 32 → unfinished (slot id) ≡ false → n < 32
-  room-left id h f = go (cases_lt 0 n)
+  pub room_left : (id : ℕ) → id < 32 → unfinished (slot id) ≡ false → n < 32
+  room_left id h f = go (cases_lt 0 n)
     where
       go : (0 < n) ⊎ (n ≤ 0) → n < 32
       go (inr none) = omega arith
@@ -109,4 +109,4 @@ module _ (slot : ℕ → TaskRow) (keys : List ℕ) (n : ℕ) (kept : Kept slot 
           k (number_below (get_or keys 0 0)) (rw (own, first.0) (omega arith)) in
           let most : sum 32 (λ i. cond (unfinished (slot i)) 1 0) < sum 32 (λ _. 1) =
           sum_lt 32 (λ i. cond (unfinished (slot i)) 1 0) (λ _. 1) (λ i _. part true (unfinished (slot i))) id h (rw f (omega arith)) in
-          omega (arith, fewer, most, ones, below-place (n - 1) 0 (omega arith))
+          omega (arith, fewer, most, ones, below_place (n - 1) 0 (omega arith))

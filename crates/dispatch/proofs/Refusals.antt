@@ -25,84 +25,84 @@ passes : (s : State) (c : Call) → refusal s c ≡ None → Passes s c
 passes s c e = (sym (ap (λ o. answer_by o (reply s c)) e), sym (ap (λ o. state_by o s (changed s c)) e))
 
 module _ (s : State) (id : ℕ) where
-  pub level-large : 32 ≤ id → Refuses s (Level id) NumberTooLarge
+  pub level_large : 32 ≤ id → Refuses s (Level id) NumberTooLarge
   unfolding refusal
-  level-large big = refuses s (Level id) NumberTooLarge (rw (le-ltb id 32 big) refl)
+  level_large big = refuses s (Level id) NumberTooLarge (rw (le-ltb id 32 big) refl)
 
-  pub level-unheld : id < 32 → (s.slot id).held ≡ false → Refuses s (Level id) NotHeld
+  pub level_unheld : id < 32 → (s.slot id).held ≡ false → Refuses s (Level id) NotHeld
   unfolding refusal
-  level-unheld below free = refuses s (Level id) NotHeld (rw (lt-ltb id 32 below, free) refl)
+  level_unheld below free = refuses s (Level id) NotHeld (rw (lt-ltb id 32 below, free) refl)
 
-  pub level-passes : id < 32 → (s.slot id).held ≡ true → Passes s (Level id)
+  pub level_passes : id < 32 → (s.slot id).held ≡ true → Passes s (Level id)
   unfolding refusal
-  level-passes below held = passes s (Level id) (rw (lt-ltb id 32 below, held) refl)
+  level_passes below held = passes s (Level id) (rw (lt-ltb id 32 below, held) refl)
 
-  pub withdraw-large : 32 ≤ id → Refuses s (Withdraw id) NumberTooLarge
+  pub withdraw_large : 32 ≤ id → Refuses s (Withdraw id) NumberTooLarge
   unfolding refusal
-  withdraw-large big = refuses s (Withdraw id) NumberTooLarge (rw (le-ltb id 32 big) refl)
+  withdraw_large big = refuses s (Withdraw id) NumberTooLarge (rw (le-ltb id 32 big) refl)
 
-  pub withdraw-unheld : id < 32 → (s.slot id).held ≡ false → Refuses s (Withdraw id) NotHeld
+  pub withdraw_unheld : id < 32 → (s.slot id).held ≡ false → Refuses s (Withdraw id) NotHeld
   unfolding refusal
-  withdraw-unheld below free = refuses s (Withdraw id) NotHeld (rw (lt-ltb id 32 below, free) refl)
+  withdraw_unheld below free = refuses s (Withdraw id) NotHeld (rw (lt-ltb id 32 below, free) refl)
 
-  pub withdraw-busy : id < 32 → (s.slot id).held ≡ true → quiet s.slot ≡ false → Refuses s (Withdraw id) JobUnfinished
+  pub withdraw_busy : id < 32 → (s.slot id).held ≡ true → quiet s.slot ≡ false → Refuses s (Withdraw id) JobUnfinished
   unfolding refusal
-  withdraw-busy below held busy = refuses s (Withdraw id) JobUnfinished (rw (lt-ltb id 32 below, held, busy) refl)
+  withdraw_busy below held busy = refuses s (Withdraw id) JobUnfinished (rw (lt-ltb id 32 below, held, busy) refl)
 
-  pub withdraw-passes : id < 32 → (s.slot id).held ≡ true → quiet s.slot ≡ true → Passes s (Withdraw id)
+  pub withdraw_passes : id < 32 → (s.slot id).held ≡ true → quiet s.slot ≡ true → Passes s (Withdraw id)
   unfolding refusal
-  withdraw-passes below held done = passes s (Withdraw id) (rw (lt-ltb id 32 below, held, done) refl)
+  withdraw_passes below held done = passes s (Withdraw id) (rw (lt-ltb id 32 below, held, done) refl)
 
 module _ (s : State) (id run : ℕ) where
-  pub release-large : 32 ≤ id → Refuses s (Release id run) NumberTooLarge
+  pub release_large : 32 ≤ id → Refuses s (Release id run) NumberTooLarge
   unfolding refusal
-  release-large big = refuses s (Release id run) NumberTooLarge (rw (le-ltb id 32 big) refl)
+  release_large big = refuses s (Release id run) NumberTooLarge (rw (le-ltb id 32 big) refl)
 
-  pub release-unheld : id < 32 → (s.slot id).held ≡ false → Refuses s (Release id run) NotHeld
+  pub release_unheld : id < 32 → (s.slot id).held ≡ false → Refuses s (Release id run) NotHeld
   unfolding refusal
-  release-unheld below free = refuses s (Release id run) NotHeld (rw (lt-ltb id 32 below, free) refl)
+  release_unheld below free = refuses s (Release id run) NotHeld (rw (lt-ltb id 32 below, free) refl)
 
-  pub release-bad : id < 32 → (s.slot id).held ≡ true → (leb 1 run && leb run (s.slot id).run) ≡ false → Refuses s (Release id run) BadRunTime
+  pub release_bad : id < 32 → (s.slot id).held ≡ true → (leb 1 run && leb run (s.slot id).run) ≡ false → Refuses s (Release id run) BadRunTime
   unfolding refusal
-  release-bad below held bad = refuses s (Release id run) BadRunTime (rw (lt-ltb id 32 below, held, bad) refl)
+  release_bad below held bad = refuses s (Release id run) BadRunTime (rw (lt-ltb id 32 below, held, bad) refl)
 
-  pub release-soon : id < 32 → (s.slot id).held ≡ true → (leb 1 run && leb run (s.slot id).run) ≡ true → ready s.clock (s.slot id).period (s.slot id).latest ≡ false → Refuses s (Release id run) TooSoon
+  pub release_soon : id < 32 → (s.slot id).held ≡ true → (leb 1 run && leb run (s.slot id).run) ≡ true → ready s.clock (s.slot id).period (s.slot id).latest ≡ false → Refuses s (Release id run) TooSoon
   unfolding refusal
-  release-soon below held good soon = refuses s (Release id run) TooSoon (rw (lt-ltb id 32 below, held, good, soon) refl)
+  release_soon below held good soon = refuses s (Release id run) TooSoon (rw (lt-ltb id 32 below, held, good, soon) refl)
 
-  pub release-passes : id < 32 → (s.slot id).held ≡ true → (leb 1 run && leb run (s.slot id).run) ≡ true → ready s.clock (s.slot id).period (s.slot id).latest ≡ true → Passes s (Release id run)
+  pub release_passes : id < 32 → (s.slot id).held ≡ true → (leb 1 run && leb run (s.slot id).run) ≡ true → ready s.clock (s.slot id).period (s.slot id).latest ≡ true → Passes s (Release id run)
   unfolding refusal
-  release-passes below held good now' = passes s (Release id run) (rw (lt-ltb id 32 below, held, good, now') refl)
+  release_passes below held good now' = passes s (Release id run) (rw (lt-ltb id 32 below, held, good, now') refl)
 
 module _ (s : State) (id run period deadline : ℕ) where
-  pub admit-large : 32 ≤ id → Refuses s (Admit id run period deadline) NumberTooLarge
+  pub admit_large : 32 ≤ id → Refuses s (Admit id run period deadline) NumberTooLarge
   unfolding refusal
-  admit-large big = refuses s (Admit id run period deadline) NumberTooLarge (rw (le-ltb id 32 big) refl)
+  admit_large big = refuses s (Admit id run period deadline) NumberTooLarge (rw (le-ltb id 32 big) refl)
 
-  pub admit-bad : id < 32 → timely run period deadline ≡ false → Refuses s (Admit id run period deadline) BadCard
+  pub admit_bad : id < 32 → timely run period deadline ≡ false → Refuses s (Admit id run period deadline) BadCard
   unfolding refusal
-  admit-bad below bad = refuses s (Admit id run period deadline) BadCard (rw (lt-ltb id 32 below, bad) refl)
+  admit_bad below bad = refuses s (Admit id run period deadline) BadCard (rw (lt-ltb id 32 below, bad) refl)
 
-  pub admit-taken : id < 32 → timely run period deadline ≡ true → (s.slot id).held ≡ true → Refuses s (Admit id run period deadline) NumberTaken
+  pub admit_taken : id < 32 → timely run period deadline ≡ true → (s.slot id).held ≡ true → Refuses s (Admit id run period deadline) NumberTaken
   unfolding refusal
-  admit-taken below good held = refuses s (Admit id run period deadline) NumberTaken (rw (lt-ltb id 32 below, good, held) refl)
+  admit_taken below good held = refuses s (Admit id run period deadline) NumberTaken (rw (lt-ltb id 32 below, good, held) refl)
 
-  pub admit-fails : id < 32 → timely run period deadline ≡ true → (s.slot id).held ≡ false → (k : ℕ) → k < 32 → first_unserved s.table (put s.slot id (admitted run period deadline)) ≡ k → Refuses s (Admit id run period deadline) (NoLevel k)
+  pub admit_fails : id < 32 → timely run period deadline ≡ true → (s.slot id).held ≡ false → (k : ℕ) → k < 32 → first_unserved s.table (put s.slot id (admitted run period deadline)) ≡ k → Refuses s (Admit id run period deadline) (NoLevel k)
   unfolding refusal
-  admit-fails below good free k small first = refuses s (Admit id run period deadline) (NoLevel k) (rw (lt-ltb id 32 below, good, free, first, ne_eqb k 32 (λ e. omega arith)) refl)
+  admit_fails below good free k small first = refuses s (Admit id run period deadline) (NoLevel k) (rw (lt-ltb id 32 below, good, free, first, ne_eqb k 32 (λ e. omega arith)) refl)
 
-  pub admit-passes : id < 32 → timely run period deadline ≡ true → (s.slot id).held ≡ false → first_unserved s.table (put s.slot id (admitted run period deadline)) ≡ 32 → Passes s (Admit id run period deadline)
+  pub admit_passes : id < 32 → timely run period deadline ≡ true → (s.slot id).held ≡ false → first_unserved s.table (put s.slot id (admitted run period deadline)) ≡ 32 → Passes s (Admit id run period deadline)
   unfolding refusal
-  admit-passes below good free all = passes s (Admit id run period deadline) (rw (lt-ltb id 32 below, good, free, eq-eqb _ 32 all) refl)
+  admit_passes below good free all = passes s (Admit id run period deadline) (rw (lt-ltb id 32 below, good, free, eq-eqb _ 32 all) refl)
 
 module _ (s : State) where
-  pub tick-ends : 1000000000 ≤ s.clock → Refuses s Tick ClockAtEnd
+  pub tick_ends : 1000000000 ≤ s.clock → Refuses s Tick ClockAtEnd
   unfolding refusal
-  tick-ends end = refuses s Tick ClockAtEnd (rw (le-ltb s.clock 1000000000 end) refl)
+  tick_ends end = refuses s Tick ClockAtEnd (rw (le-ltb s.clock 1000000000 end) refl)
 
-  pub tick-passes : s.clock < 1000000000 → Passes s Tick
+  pub tick_passes : s.clock < 1000000000 → Passes s Tick
   unfolding refusal
-  tick-passes before = passes s Tick (rw (lt-ltb s.clock 1000000000 before) refl)
+  tick_passes before = passes s Tick (rw (lt-ltb s.clock 1000000000 before) refl)
 
 -- states with the same parts
 pub same_state : (s t : State) → ((x : ℕ) → s.row x ≡ t.row x) → ((j n : ℕ) → s.table j n ≡ t.table j n) → s.clock ≡ t.clock → s.slot ≡ t.slot → s ≡ t

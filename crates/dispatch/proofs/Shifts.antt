@@ -36,8 +36,8 @@ unfolding entries_of shift after_all
 carried_none s t calls old e = record { entries = refl; state = e; behind = refl }
 
 module _ (s t t' : State) (calls : List Call) (old answers : List Answer) (i : ℕ) (d : Call) (a : Answer) (so : Carried s t calls old answers i) (here : i < length calls) (room : i < length answers) where
-  pub carried-more : a ≡ answer t (get_or calls i d) → t' ≡ after t (get_or calls i d) → Carried s t' calls old (set answers i a) (i + 1)
-  carried-more is then =
+  pub carried_more : a ≡ answer t (get_or calls i d) → t' ≡ after t (get_or calls i d) → Carried s t' calls old (set answers i a) (i + 1)
+  carried_more is then =
       let c = get_or calls i d in
       let more = take_more calls i d here in
       let same : length (take i calls) ≡ length (take i answers) = length-take-le i calls (omega arith) ∙ sym (length-take-le i answers (omega arith)) in

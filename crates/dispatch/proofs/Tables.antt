@@ -8,7 +8,7 @@ use Rattle.schedule.specs.declared.TaskRow.{TaskRow}
 use Rattle.schedule.specs.Calls.{quiet}
 use Rattle.schedule.specs.Order.{unfinished}
 use Rattle.schedule.specs.State.{blank, put}
-use Rattle.schedule.proofs.Rows.{put_set, put-elim}
+use Rattle.schedule.proofs.Rows.{put_set, put_elim}
 use Rattle.schedule.proofs.Searches.{least_is, least_below}
 use Rattle.dispatch.specs.Rows.{slots, carded}
 
@@ -21,25 +21,25 @@ slots_blank i = go (cases_lt i 32)
 
 -- the rows with one of them set
 module _ (rows new : List TaskRow) (id : ℕ) (r : TaskRow) (full : length rows ≡ 32) (below : id < 32) (is : new ≡ set rows id r) where
-  slot-set : (i : ℕ) → slots new i ≡ put (slots rows) id r i
-  slot-set i = ap (λ l. slots l i) is ∙ put_set rows id r (omega arith) i
+  slot_set : (i : ℕ) → slots new i ≡ put (slots rows) id r i
+  slot_set i = ap (λ l. slots l i) is ∙ put_set rows id r (omega arith) i
 
   pub slots_set : slots new ≡ put (slots rows) id r
-  slots_set = fun_ext slot-set
+  slots_set = fun_ext slot_set
 
-  pub full-set : length new ≡ 32
-  full-set = ap length is ∙ length-set rows id r ∙ full
+  pub full_set : length new ≡ 32
+  full_set = ap length is ∙ length-set rows id r ∙ full
 
-  pub carded-set : carded r ≡ true → ((i : ℕ) → carded (slots rows i) ≡ true) → (i : ℕ) → carded (slots new i) ≡ true
-  carded-set here there i = ap carded (slot-set i) ∙ put-elim (slots rows) id r (λ _ x. carded x ≡ true) here (λ k _. there k) i
+  pub carded_set : carded r ≡ true → ((i : ℕ) → carded (slots rows i) ≡ true) → (i : ℕ) → carded (slots new i) ≡ true
+  carded_set here there i = ap carded (slot_set i) ∙ put_elim (slots rows) id r (λ _ x. carded x ≡ true) here (λ k _. there k) i
 
 -- a search that finds an unfinished job, and one that finds none
 module _ (slot : ℕ → TaskRow) where
-  pub not-quiet : (i : ℕ) → i < 32 → unfinished (slot i) ≡ true → quiet slot ≡ false
-  not-quiet i h u = ne_eqb _ 32 (λ e. both_ways (unfinished (slot i)) (least_below 32 (λ k. unfinished (slot k)) i (omega arith)) u)
+  pub not_quiet : (i : ℕ) → i < 32 → unfinished (slot i) ≡ true → quiet slot ≡ false
+  not_quiet i h u = ne_eqb _ 32 (λ e. both_ways (unfinished (slot i)) (least_below 32 (λ k. unfinished (slot k)) i (omega arith)) u)
 
-  pub is-quiet : ((i : ℕ) → i < 32 → unfinished (slot i) ≡ false) → quiet slot ≡ true
-  is-quiet each = eq-eqb _ 32 (least_is 32 (λ k. unfinished (slot k)) 32 (omega arith) (λ h. absurd (omega arith)) each)
+  pub is_quiet : ((i : ℕ) → i < 32 → unfinished (slot i) ≡ false) → quiet slot ≡ true
+  is_quiet each = eq-eqb _ 32 (least_is 32 (λ k. unfinished (slot k)) 32 (omega arith) (λ h. absurd (omega arith)) each)
 
 -- a number whose row holds a task is below 32
 pub held_below : (rows : List TaskRow) (id : ℕ) → length rows ≡ 32 → (slots rows id).held ≡ true → id < 32
@@ -54,11 +54,11 @@ unfinished_below rows full id u = held_below rows id full (and_parts _ _ u).0
 
 -- the row of a held task makes a card
 module _ (rows : List TaskRow) (id : ℕ) (full : length rows ≡ 32) (times : carded (slots rows id) ≡ true) (held : (slots rows id).held ≡ true) where
-  times-timely : timely (slots rows id).run (slots rows id).period (slots rows id).deadline ≡ true
-  times-timely = sym (cond-true (slots rows id).held _ true held) ∙ times
+  times_timely : timely (slots rows id).run (slots rows id).period (slots rows id).deadline ≡ true
+  times_timely = sym (cond-true (slots rows id).held _ true held) ∙ times
 
-  pub card-asked : (ltb id 32 && timely (slots rows id).run (slots rows id).period (slots rows id).deadline) ≡ true
-  card-asked = and_from _ _ (lt-ltb id 32 (held_below rows id full held)) times-timely
+  pub card_asked : (ltb id 32 && timely (slots rows id).run (slots rows id).period (slots rows id).deadline) ≡ true
+  card_asked = and_from _ _ (lt-ltb id 32 (held_below rows id full held)) times_timely
 
 -- what an option that hangs on a test tells of it
 pub some_by : {A : Type 0} (b : Bool) (x y : A) → Some x ≡ cond b (Some y) None → (b ≡ true) × (x ≡ y)

@@ -19,9 +19,9 @@ charge_same n r q run period = rw (run, period)
 
 module _ (table : ℕ → ℕ → ℕ) (slot : ℕ → TaskRow) (k : ℕ) where
   -- the comparison that the test makes at a level, with the numbers of the task's card
-  pub serves-at : (t : Task) (run n w j v : ℕ) → t ≡ task_at k (slot k) → run ≡ t.run → n ≡ t.deadline → w ≡ load slot k → t.deadline ≤ 8192 → j ≤ 8 → v ≡ table (min j 8) (min n 8192) → serves table slot k j ≡ leb (j * run + w) v
+  pub serves_at : (t : Task) (run n w j v : ℕ) → t ≡ task_at k (slot k) → run ≡ t.run → n ≡ t.deadline → w ≡ load slot k → t.deadline ≤ 8192 → j ≤ 8 → v ≡ table (min j 8) (min n 8192) → serves table slot k j ≡ leb (j * run + w) v
   unfolding serves
-  serves-at t run n w j v is er en ew few hj ev =
+  serves_at t run n w j v is er en ew few hj ev =
       let at : v ≡ table j t.deadline = ev ∙ ap (λ x. table (min j 8) (min x 8192)) en ∙ within_limits table j t.deadline hj few in
       sym (rw (er, ew, at) (ap (λ x. leb (j * x.run + load slot k) (table j x.deadline)) is))
 
@@ -32,21 +32,21 @@ module _ (table : ℕ → ℕ → ℕ) (slot : ℕ → TaskRow) (k : ℕ) where
       go (inl e) = ap (serves table slot k) e ∙ here
       go (inr ne) = below x (omega arith)
 
-  pub witness-is : (j : ℕ) → 1 ≤ j → j ≤ 8 → serves table slot k j ≡ true → ((x : ℕ) → suc x < j → serves table slot k (suc x) ≡ false) → witness table slot k ≡ j
+  pub witness_is : (j : ℕ) → 1 ≤ j → j ≤ 8 → serves table slot k j ≡ true → ((x : ℕ) → suc x < j → serves table slot k (suc x) ≡ false) → witness table slot k ≡ j
   unfolding witness
-  witness-is zero one few yes' below = absurd (omega arith)
-  witness-is (suc j) one few yes' below =
+  witness_is zero one few yes' below = absurd (omega arith)
+  witness_is (suc j) one few yes' below =
       ap level_from (least_is 8 (λ x. serves table slot k (suc x)) j (omega arith) (λ _. yes') (λ x h. below x (omega arith)))
       ∙ cond-true _ (suc j) 0 (lt-ltb j 8 (omega arith))
 
-  pub witness-none : ((x : ℕ) → suc x < 9 → serves table slot k (suc x) ≡ false) → witness table slot k ≡ 0
+  pub witness_none : ((x : ℕ) → suc x < 9 → serves table slot k (suc x) ≡ false) → witness table slot k ≡ 0
   unfolding witness
-  witness-none below = ap level_from (least_is 8 (λ x. serves table slot k (suc x)) 8 (omega arith) (λ h. absurd (omega arith)) (λ x h. below x (omega arith)))
+  witness_none below = ap level_from (least_is 8 (λ x. serves table slot k (suc x)) 8 (omega arith) (λ h. absurd (omega arith)) (λ x h. below x (omega arith)))
 
 module _ (table : ℕ → ℕ → ℕ) (slot : ℕ → TaskRow) where
-  pub unserved-first : (k : ℕ) → k < 32 → unserved table slot k ≡ true → ((i : ℕ) → i < k → unserved table slot i ≡ false) → first_unserved table slot ≡ k
+  pub unserved_first : (k : ℕ) → k < 32 → unserved table slot k ≡ true → ((i : ℕ) → i < k → unserved table slot i ≡ false) → first_unserved table slot ≡ k
   unfolding first_unserved
-  unserved-first k h here below = least_is 32 (unserved table slot) k (omega arith) (λ _. here) below
+  unserved_first k h here below = least_is 32 (unserved table slot) k (omega arith) (λ _. here) below
 
   pub all_served : ((i : ℕ) → i < 32 → unserved table slot i ≡ false) → first_unserved table slot ≡ 32
   unfolding first_unserved

@@ -15,7 +15,7 @@ use Rattle.schedule.proofs.Words.{names_at}
 use Rattle.dispatch.specs.Keys.{key_of, id_of, keyed, waits, among, Kept}
 use Rattle.dispatch.specs.Rows.{slots}
 use Rattle.dispatch.proofs.Keys.{among_place, Filtered}
-use Rattle.dispatch.proofs.Places.{number_key, number_below, at_place, place_of, rank-place}
+use Rattle.dispatch.proofs.Places.{number_key, number_below, at_place, place_of, rank_place}
 use Rattle.dispatch.proofs.Words.{bit_set}
 
 -- i runs on one of g processors, and m others or more are ranked before it
@@ -45,16 +45,16 @@ next_test a r m ne = ap (λ b. a && b) (grind (arith, nat_tests))
 module _ (slot : ℕ → TaskRow) (keys : List ℕ) (n : ℕ) (kept : Kept slot keys n) (within : (i : ℕ) → unfinished (slot i) ≡ true → i < 32) (g first : ℕ) (from : first ≡ n - g) where
   -- an unfinished job with its place and rank
   placed : (i : ℕ) → unfinished (slot i) ≡ true → (p : ℕ) × (p < n) × (get_or keys p 0 ≡ key_of i (slot i)) × (rank slot i + p + 1 ≡ n)
-  placed i u = let w = place_of slot keys n kept i (within i u) u in (w.0, w.1, w.2, rank-place slot keys n kept w.0 i w.1 (within i u) w.2)
+  placed i u = let w = place_of slot keys n kept i (within i u) u in (w.0, w.1, w.2, rank_place slot keys n kept w.0 i w.1 (within i u) w.2)
 
   -- the key at a place with its job
-  job-at : (p key : ℕ) → p < n → key ≡ get_or keys p 0 → (unfinished (slot (id_of key)) ≡ true) × (rank slot (id_of key) + p + 1 ≡ n)
-  job-at p key below is =
+  job_at : (p key : ℕ) → p < n → key ≡ get_or keys p 0 → (unfinished (slot (id_of key)) ≡ true) × (rank slot (id_of key) + p + 1 ≡ n)
+  job_at p key below is =
       let its = subst (λ x. (unfinished (slot (id_of x)) ≡ true) × (key_of (id_of x) (slot (id_of x)) ≡ x)) (sym is) (at_place slot keys n kept p below) in
-      (its.0, rank-place slot keys n kept p (id_of key) below (number_below key) (sym is ∙ sym its.1))
+      (its.0, rank_place slot keys n kept p (id_of key) below (number_below key) (sym is ∙ sym its.1))
 
-  ran-none : (i : ℕ) → ran slot g (n - first) i ≡ false
-  ran-none i = go (cases_Bool (unfinished (slot i)))
+  ran_none : (i : ℕ) → ran slot g (n - first) i ≡ false
+  ran_none i = go (cases_Bool (unfinished (slot i)))
     where
       go : (unfinished (slot i) ≡ true) ⊎ (unfinished (slot i) ≡ false) → ran slot g (n - first) i ≡ false
       go (inl u) = rw u (first_test (rank slot i) (placed i u).0 n g first from (placed i u).3)
@@ -64,15 +64,15 @@ module _ (slot : ℕ → TaskRow) (keys : List ℕ) (n : ℕ) (kept : Kept slot 
   ran_first rows full same =
       record {
         full = full;
-        each = λ i. same i ∙ sym (ap (λ b. spent b (slot i)) (ran-none i) ∙ spent_none (slot i));
-        word = sym (sum_same 32 _ (λ _. 0) (λ i _. ap (λ b. cond b (2 ^ i) 0) (ran-none i)) ∙ sum_zero 32);
+        each = λ i. same i ∙ sym (ap (λ b. spent b (slot i)) (ran_none i) ∙ spent_none (slot i));
+        word = sym (sum_same 32 _ (λ _. 0) (λ i _. ap (λ b. cond b (2 ^ i) 0) (ran_none i)) ∙ sum_zero 32);
       }
 
   -- the keys in front of that place stay
-  pub stays-first : (x : ℕ) → among keys first x ≡ true → stays slot g x ≡ true
-  stays-first x h =
+  pub stays_first : (x : ℕ) → among keys first x ≡ true → stays slot g x ≡ true
+  stays_first x h =
       let w = (among_place keys x first).0 h in
-      let its = job-at w.0 x (omega (arith, w.1)) (sym w.2) in
+      let its = job_at w.0 x (omega (arith, w.1)) (sym w.2) in
       or_left _ _ (not_from_false _ (and_right _ _ (le-ltb (rank slot (id_of x)) g (omega (arith, its.1, w.1)))))
 
   module _ (p key : ℕ) (below : p < n) (goes : first ≤ p) (is : key ≡ get_or keys p 0) where
@@ -80,22 +80,22 @@ module _ (slot : ℕ → TaskRow) (keys : List ℕ) (n : ℕ) (kept : Kept slot 
     k = id_of key
 
     here : unfinished (slot k) ≡ true
-    here = (job-at p key below is).0
+    here = (job_at p key below is).0
 
-    rank-here : rank slot k + p + 1 ≡ n
-    rank-here = (job-at p key below is).1
+    rank_here : rank slot k + p + 1 ≡ n
+    rank_here = (job_at p key below is).1
 
     runs_here : runs slot g k ≡ true
-    runs_here = and_from _ _ here (lt-ltb (rank slot k) g (omega (arith, rank-here)))
+    runs_here = and_from _ _ here (lt-ltb (rank slot k) g (omega (arith, rank_here)))
 
     not_yet : ran slot g (n - p) k ≡ false
-    not_yet = and_right _ _ (lt-leb (n - p) (rank slot k) (omega (arith, rank-here)))
+    not_yet = and_right _ _ (lt-leb (n - p) (rank slot k) (omega (arith, rank_here)))
 
-    ran-now : ran slot g (n - (p + 1)) k ≡ true
-    ran-now = and_from _ _ runs_here (le-leb (n - (p + 1)) (rank slot k) (omega (arith, rank-here)))
+    ran_now : ran slot g (n - (p + 1)) k ≡ true
+    ran_now = and_from _ _ runs_here (le-leb (n - (p + 1)) (rank slot k) (omega (arith, rank_here)))
 
-    ran-others : (i : ℕ) → (i ≡ k → ⊥) → ran slot g (n - (p + 1)) i ≡ ran slot g (n - p) i
-    ran-others i ne = go (cases_Bool (unfinished (slot i)))
+    ran_others : (i : ℕ) → (i ≡ k → ⊥) → ran slot g (n - (p + 1)) i ≡ ran slot g (n - p) i
+    ran_others i ne = go (cases_Bool (unfinished (slot i)))
       where
         go : (unfinished (slot i) ≡ true) ⊎ (unfinished (slot i) ≡ false) → ran slot g (n - (p + 1)) i ≡ ran slot g (n - p) i
         go (inr f) = rw f refl
@@ -109,27 +109,27 @@ module _ (slot : ℕ → TaskRow) (keys : List ℕ) (n : ℕ) (kept : Kept slot 
       pub row_here : slots rows k ≡ slot k
       row_here = so.each k ∙ ap (λ b. spent b (slot k)) not_yet ∙ spent_none (slot k)
 
-      pub lacks-here : 0 < (slots rows k).lacking
-      lacks-here = omega (arith, ap (λ r. r.lacking) row_here, ltb-true 0 (slot k).lacking (and_parts _ _ here).1)
+      pub lacks_here : 0 < (slots rows k).lacking
+      lacks_here = omega (arith, ap (λ r. r.lacking) row_here, ltb-true 0 (slot k).lacking (and_parts _ _ here).1)
 
       -- its key stays, where it lacks more than this tick
       pub stays_here : stays slot g key ≡ ltb 1 (slots rows k).lacking
       stays_here = ap (λ b. not b || ltb 1 (slot k).lacking) runs_here ∙ ap (λ r. ltb 1 r.lacking) (sym row_here)
 
-      pub ran-more : (r : TaskRow) → r ≡ spent true (slots rows k) → Ran slot g (n - (p + 1)) (set rows k r) (bit_or w ((1 * 2 ^ k) % 2 ^ 32))
-      ran-more r spends = record { full = length-set rows k r ∙ so.full; each = λ i. put_set rows k r inside i ∙ each i (cases_eq i k); word = bit ∙ sym grown }
+      pub ran_more : (r : TaskRow) → r ≡ spent true (slots rows k) → Ran slot g (n - (p + 1)) (set rows k r) (bit_or w ((1 * 2 ^ k) % 2 ^ 32))
+      ran_more r spends = record { full = length-set rows k r ∙ so.full; each = λ i. put_set rows k r inside i ∙ each i (cases_eq i k); word = bit ∙ sym grown }
         where
           inside : k < length rows
           inside = omega (arith, so.full, number_below key)
 
           each : (i : ℕ) → (i ≡ k) ⊎ (i ≡ k → ⊥) → put (slots rows) k r i ≡ spent (ran slot g (n - (p + 1)) i) (slot i)
-          each i (inl e) = put_same (slots rows) k r i e ∙ spends ∙ ap (spent true) row_here ∙ ap (λ b. spent b (slot k)) (sym ran-now) ∙ ap (λ j. spent (ran slot g (n - (p + 1)) j) (slot j)) (sym e)
-          each i (inr ne) = put_other (slots rows) k r i ne ∙ so.each i ∙ ap (λ b. spent b (slot i)) (sym (ran-others i ne))
+          each i (inl e) = put_same (slots rows) k r i e ∙ spends ∙ ap (spent true) row_here ∙ ap (λ b. spent b (slot k)) (sym ran_now) ∙ ap (λ j. spent (ran slot g (n - (p + 1)) j) (slot j)) (sym e)
+          each i (inr ne) = put_other (slots rows) k r i ne ∙ so.each i ∙ ap (λ b. spent b (slot i)) (sym (ran_others i ne))
 
           grown : sum 32 (λ i. cond (ran slot g (n - (p + 1)) i) (2 ^ i) 0) ≡ w + 2 ^ k
           grown =
               sum_grown 32 (λ i. cond (ran slot g (n - p) i) (2 ^ i) 0) (λ i. cond (ran slot g (n - (p + 1)) i) (2 ^ i) 0) k (2 ^ k)
-              (number_below key) (rw (ran-now, not_yet) (omega arith)) (λ i _ ne. ap (λ b. cond b (2 ^ i) 0) (ran-others i ne))
+              (number_below key) (rw (ran_now, not_yet) (omega arith)) (λ i _ ne. ap (λ b. cond b (2 ^ i) 0) (ran_others i ne))
               ∙ ap (λ v. v + 2 ^ k) (sym so.word)
 
           free : names w k ≡ 0
@@ -155,15 +155,15 @@ module _ (slot : ℕ → TaskRow) (g : ℕ) (rows : List TaskRow) (w : ℕ) (so 
   pub rows_behind : (i : ℕ) → slots rows i ≡ spent (runs slot g i) (slot i)
   rows_behind i = so.each i ∙ ap (λ b. spent b (slot i)) (ran_whole slot g i)
 
-  pub word-behind : w ≡ word slot g
+  pub word_behind : w ≡ word slot g
   unfolding word
-  word-behind = so.word ∙ sum_same 32 _ _ (λ i _. ap (λ b. cond b (2 ^ i) 0) (ran_whole slot g i))
+  word_behind = so.word ∙ sum_same 32 _ _ (λ i _. ap (λ b. cond b (2 ^ i) 0) (ran_whole slot g i))
 
-  waits-behind : (x : ℕ) → waits slot x && stays slot g x ≡ waits (slots rows) x
+  waits_behind : (x : ℕ) → waits slot x && stays slot g x ≡ waits (slots rows) x
   unfolding waits
-  waits-behind x =
+  waits_behind x =
       let i = id_of x in
       still (slot i).held (slot i).lacking (eqb (key_of i (slot i)) x) (runs slot g i) ∙ ap (λ r. keyed i r x) (sym (rows_behind i))
 
-  pub kept-behind : (old keys : List ℕ) (n place : ℕ) → Kept slot old n → Filtered old keys place n (stays slot g) → Kept (slots rows) keys place
-  kept-behind old keys n place kept so = record { sorted = so.sorted; holds = λ x. so.holds x ∙ ap (λ b. b && stays slot g x) (kept.holds x) ∙ waits-behind x }
+  pub kept_behind : (old keys : List ℕ) (n place : ℕ) → Kept slot old n → Filtered old keys place n (stays slot g) → Kept (slots rows) keys place
+  kept_behind old keys n place kept so = record { sorted = so.sorted; holds = λ x. so.holds x ∙ ap (λ b. b && stays slot g x) (kept.holds x) ∙ waits_behind x }

@@ -8,8 +8,8 @@ use Rattle.schedule.specs.State.{blank, put}
 use Rattle.schedule.proofs.Rows.{put_same, put_other, put_set}
 use Rattle.dispatch.specs.Keys.{key_of, id_of, keyed, waits, among, Sorted, Kept}
 use Rattle.dispatch.specs.Rows.{slots}
-use Rattle.dispatch.proofs.Places.{number_key, number_below, at_place, place_of, room-left}
-use Rattle.dispatch.proofs.Tables.{not-quiet, is-quiet}
+use Rattle.dispatch.proofs.Places.{number_key, number_below, at_place, place_of, room_left}
+use Rattle.dispatch.proofs.Tables.{not_quiet, is_quiet}
 
 and_not : (a : Bool) → a && not a ≡ false
 and_not true = refl
@@ -42,62 +42,62 @@ count_quiet slot keys n kept = go (cases_lt 0 n)
     none l i h (inr f) = f
 
     go : (0 < n) ⊎ (n ≤ 0) → eqb n 0 ≡ quiet slot
-    go (inl l) = ne_eqb n 0 (λ e. omega arith) ∙ sym (not-quiet slot (id_of (get_or keys 0 0)) (number_below (get_or keys 0 0)) (at_place slot keys n kept 0 l).0)
-    go (inr l) = eq-eqb n 0 (omega arith) ∙ sym (is-quiet slot (λ i h. none l i h (cases_Bool (unfinished (slot i)))))
+    go (inl l) = ne_eqb n 0 (λ e. omega arith) ∙ sym (not_quiet slot (id_of (get_or keys 0 0)) (number_below (get_or keys 0 0)) (at_place slot keys n kept 0 l).0)
+    go (inr l) = eq-eqb n 0 (omega arith) ∙ sym (is_quiet slot (λ i h. none l i h (cases_Bool (unfinished (slot i)))))
 
 module _ (slot : ℕ → TaskRow) (id : ℕ) (below : id < 32) where
   -- the key of another number is not that of row id
-  others-key : (r : TaskRow) (x : ℕ) → (id_of x ≡ id → ⊥) → keyed id r x ≡ false
-  others-key r x ne = go (cases_Bool (keyed id r x))
+  others_key : (r : TaskRow) (x : ℕ) → (id_of x ≡ id → ⊥) → keyed id r x ≡ false
+  others_key r x ne = go (cases_Bool (keyed id r x))
     where
       go : (keyed id r x ≡ true) ⊎ (keyed id r x ≡ false) → keyed id r x ≡ false
       go (inl t) = absurd (ne (ap id_of (sym (eqb-true (key_of id r) x (and_parts _ _ t).1)) ∙ number_key id r below))
       go (inr f) = f
 
   -- the keys without that of row id
-  waits-left : (x : ℕ) → waits slot x && not (keyed id (slot id) x) ≡ waits (put slot id blank) x
+  waits_left : (x : ℕ) → waits slot x && not (keyed id (slot id) x) ≡ waits (put slot id blank) x
   unfolding waits
-  waits-left x = go (cases_eq (id_of x) id)
+  waits_left x = go (cases_eq (id_of x) id)
     where
       go : (id_of x ≡ id) ⊎ (id_of x ≡ id → ⊥) → keyed (id_of x) (slot (id_of x)) x && not (keyed id (slot id) x) ≡ keyed (id_of x) (put slot id blank (id_of x)) x
       go (inl e) = ap (λ k. keyed k (slot k) x && not (keyed id (slot id) x)) e ∙ and_not (keyed id (slot id) x) ∙ ap (λ r. keyed (id_of x) r x) (sym (put_same slot id blank (id_of x) e))
       go (inr ne) =
-          ap (λ b. keyed (id_of x) (slot (id_of x)) x && not b) (others-key (slot id) x ne)
+          ap (λ b. keyed (id_of x) (slot (id_of x)) x && not b) (others_key (slot id) x ne)
           ∙ and_true (keyed (id_of x) (slot (id_of x)) x) ∙ ap (λ r. keyed (id_of x) r x) (sym (put_other slot id blank (id_of x) ne))
 
   -- the keys with that of a new row id
-  waits-joined : (r : TaskRow) (x : ℕ) → keyed id r x || waits (put slot id blank) x ≡ waits (put slot id r) x
+  waits_joined : (r : TaskRow) (x : ℕ) → keyed id r x || waits (put slot id blank) x ≡ waits (put slot id r) x
   unfolding waits
-  waits-joined r x = go (cases_eq (id_of x) id)
+  waits_joined r x = go (cases_eq (id_of x) id)
     where
       go : (id_of x ≡ id) ⊎ (id_of x ≡ id → ⊥) → keyed id r x || keyed (id_of x) (put slot id blank (id_of x)) x ≡ keyed (id_of x) (put slot id r (id_of x)) x
       go (inl e) =
           ap (λ s. keyed id r x || keyed (id_of x) s x) (put_same slot id blank (id_of x) e)
           ∙ or_false (keyed id r x) ∙ ap (λ k. keyed k r x) (sym e) ∙ ap (λ s. keyed (id_of x) s x) (sym (put_same slot id r (id_of x) e))
       go (inr ne) =
-          ap (λ b. b || keyed (id_of x) (put slot id blank (id_of x)) x) (others-key r x ne)
+          ap (λ b. b || keyed (id_of x) (put slot id blank (id_of x)) x) (others_key r x ne)
           ∙ ap (λ s. keyed (id_of x) s x) (put_other slot id blank (id_of x) ne ∙ sym (put_other slot id r (id_of x) ne))
 
   -- no key has a number whose row is blank
-  waits-blank : (r : TaskRow) → waits (put slot id blank) (key_of id r) ≡ false
+  waits_blank : (r : TaskRow) → waits (put slot id blank) (key_of id r) ≡ false
   unfolding waits
-  waits-blank r = ap (λ s. keyed (id_of (key_of id r)) s (key_of id r)) (put_same slot id blank (id_of (key_of id r)) (number_key id r below))
+  waits_blank r = ap (λ s. keyed (id_of (key_of id r)) s (key_of id r)) (put_same slot id blank (id_of (key_of id r)) (number_key id r below))
 
   module _ (keys : List ℕ) (count : ℕ) (kept : Kept slot keys count) (less : List ℕ) (fewer : ℕ) (sorted : Sorted less fewer) (left : (x : ℕ) → among less fewer x ≡ among keys count x && not (keyed id (slot id) x)) where
-    kept-left : Kept (put slot id blank) less fewer
-    kept-left = record { sorted = sorted; holds = λ x. left x ∙ ap (λ b. b && not (keyed id (slot id) x)) (kept.holds x) ∙ waits-left x }
+    kept_left : Kept (put slot id blank) less fewer
+    kept_left = record { sorted = sorted; holds = λ x. left x ∙ ap (λ b. b && not (keyed id (slot id) x)) (kept.holds x) ∙ waits_left x }
 
-    pub room-behind : fewer < 32
-    room-behind = room-left (put slot id blank) less fewer kept-left id below (ap unfinished (put_same slot id blank id refl))
+    pub room_behind : fewer < 32
+    room_behind = room_left (put slot id blank) less fewer kept_left id below (ap unfinished (put_same slot id blank id refl))
 
-    pub new-key : (r : TaskRow) → among less fewer (key_of id r) ≡ false
-    new-key r = kept-left.holds (key_of id r) ∙ waits-blank r
+    pub new_key : (r : TaskRow) → among less fewer (key_of id r) ≡ false
+    new_key r = kept_left.holds (key_of id r) ∙ waits_blank r
 
-    pub joined-holds : (r : TaskRow) (more : List ℕ) (n : ℕ) → ((x : ℕ) → among more n x ≡ keyed id r x || among less fewer x) → (x : ℕ) → among more n x ≡ waits (put slot id r) x
-    joined-holds r more n joined x = joined x ∙ ap (λ b. keyed id r x || b) (kept-left.holds x) ∙ waits-joined r x
+    pub joined_holds : (r : TaskRow) (more : List ℕ) (n : ℕ) → ((x : ℕ) → among more n x ≡ keyed id r x || among less fewer x) → (x : ℕ) → among more n x ≡ waits (put slot id r) x
+    joined_holds r more n joined x = joined x ∙ ap (λ b. keyed id r x || b) (kept_left.holds x) ∙ waits_joined r x
 
-    pub left-holds : (r : TaskRow) → unfinished r ≡ false → (x : ℕ) → among less fewer x ≡ waits (put slot id r) x
-    left-holds r finished = joined-holds r less fewer (λ x. sym (ap (λ b. (b && eqb (key_of id r) x) || among less fewer x) finished))
+    pub left_holds : (r : TaskRow) → unfinished r ≡ false → (x : ℕ) → among less fewer x ≡ waits (put slot id r) x
+    left_holds r finished = joined_holds r less fewer (λ x. sym (ap (λ b. (b && eqb (key_of id r) x) || among less fewer x) finished))
 
 -- the jobs are kept with a row set
 pub kept_set : (rows : List TaskRow) (id : ℕ) (r : TaskRow) (keys : List ℕ) (n : ℕ) → id < length rows → Sorted keys n → ((x : ℕ) → among keys n x ≡ waits (put (slots rows) id r) x) → Kept (slots (set rows id r)) keys n

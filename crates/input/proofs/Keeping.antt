@@ -11,12 +11,12 @@ module _ (bytes : List ℕ) (len : ℕ) (more : List ℕ) (i : ℕ) (full : leng
       ∙ ap (λ x. take 8193 (take len bytes ++ x ∷ drop (i + 1) more)) is
       ∙ sym (at_drop_more (λ l. take 8193 (take len bytes ++ l)) more i 0 inside)
 
-  pub one-dropped : 8193 ≤ len → take 8193 (take len bytes ++ drop (i + 1) more) ≡ take 8193 (take len bytes ++ drop i more)
-  one-dropped none =
+  pub one_dropped : 8193 ≤ len → take 8193 (take len bytes ++ drop (i + 1) more) ≡ take 8193 (take len bytes ++ drop i more)
+  one_dropped none =
       let long : 8193 ≤ length (take len bytes) = simp length-take (omega arith) in
       take-append-le 8193 (take len bytes) (drop (i + 1) more) long ∙ sym (take-append-le 8193 (take len bytes) (drop i more) long)
 
-  pub all-kept : len ≤ 8193 → length more ≤ i → take 8193 (take len bytes ++ drop i more) ≡ take len bytes
-  all-kept few past =
+  pub all_kept : len ≤ 8193 → length more ≤ i → take 8193 (take len bytes ++ drop i more) ≡ take len bytes
+  all_kept few past =
       let short : length (take len bytes) ≤ 8193 = simp length-take (omega arith) in
       at_drop_all (λ l. take 8193 (take len bytes ++ l)) more i past ∙ ap (take 8193) (append-nil (take len bytes)) ∙ take_all 8193 (take len bytes) short

@@ -5,7 +5,7 @@ use Rattle.std.specs.List.{AllByRecursion as All}
 use Rattle.plan.specs.Lawful.{Lawful}
 use Rattle.plan.specs.Reading.{Contents}
 use Rattle.plan.specs.Rows.{has, distinct}
-use Rattle.plan.proofs.Lawful.{reading_law}
+use Rattle.plan.proofs.Lawfulness.{reading_law}
 use Rattle.schedule.specs.Calls.{ask, refusal, reply, changed, answer, answer_by, after, state_by, admitted}
 use Rattle.schedule.specs.Shift.{after_all}
 use Rattle.schedule.specs.State.{State, put}

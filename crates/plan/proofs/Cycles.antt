@@ -43,45 +43,45 @@ all_divided (p ∷ ps) h a = and_from (eqb (h % p) 0) (divided_by ps h) (eq-eqb 
 
 -- what the search finds, of n numbers from h on: one that passes, or the number behind them; nothing below it passes
 module _ (p : ℕ → Bool) where
-  least-from : (n h k : ℕ) → h ≤ k → p k ≡ true → first_from p h n ≤ k ⊎ (h + n ≤ k)
+  least_from : (n h k : ℕ) → h ≤ k → p k ≡ true → first_from p h n ≤ k ⊎ (h + n ≤ k)
   unfolding first_from
-  least-from zero h k low yes' = inr (omega arith)
-  least-from (suc n) h k low yes' =
+  least_from zero h k low yes' = inr (omega arith)
+  least_from (suc n) h k low yes' =
       elim (cases_Bool (p h)) [
         | inl e ↦ rw e (inl low)
         | inr e ↦ rw e (elim (cases_eq h k) [
           | inl same ↦ absurd (both_ways (p k) (ap p (sym same) ∙ e) yes')
-          | inr other ↦ elim (least-from n (suc h) k (omega arith) yes') [ inl f ↦ inl f | inr f ↦ inr (omega arith) ]
+          | inr other ↦ elim (least_from n (suc h) k (omega arith) yes') [ inl f ↦ inl f | inr f ↦ inr (omega arith) ]
         ])
       ]
 
-  passes-from : (n h : ℕ) → first_from p h n < h + n → p (first_from p h n) ≡ true
+  passes_from : (n h : ℕ) → first_from p h n < h + n → p (first_from p h n) ≡ true
   unfolding first_from
-  passes-from zero h less = absurd (omega arith)
-  passes-from (suc n) h less =
+  passes_from zero h less = absurd (omega arith)
+  passes_from (suc n) h less =
       elim (cases_Bool (p h)) [
         | inl e ↦ rw e e
-        | inr e ↦ rw e (passes-from n (suc h) (let l : first_from p (suc h) n < h + suc n = rw e at less in omega arith))
+        | inr e ↦ rw e (passes_from n (suc h) (let l : first_from p (suc h) n < h + suc n = rw e at less in omega arith))
       ]
 
-  bounds-from : (n h : ℕ) → (h ≤ first_from p h n) × (first_from p h n ≤ h + n)
+  bounds_from : (n h : ℕ) → (h ≤ first_from p h n) × (first_from p h n ≤ h + n)
   unfolding first_from
-  bounds-from zero h = (omega arith, omega arith)
-  bounds-from (suc n) h =
+  bounds_from zero h = (omega arith, omega arith)
+  bounds_from (suc n) h =
       elim (cases_Bool (p h)) [
         | inl e ↦ rw e (omega arith, omega arith)
-        | inr e ↦ rw e (let b = bounds-from n (suc h) in (omega arith, omega arith))
+        | inr e ↦ rw e (let b = bounds_from n (suc h) in (omega arith, omega arith))
       ]
 
 pub cycle_law : CycleLaw
 cycle_law ps =
-    let b = bounds-from (divided_by ps) 512 1 in
+    let b = bounds_from (divided_by ps) 512 1 in
     elim (cases_lt (cycle_of ps) 513) [
       | inl few ↦ inl (
         omega arith,
-        (omega arith, divided_all ps (cycle_of ps) (passes-from (divided_by ps) 512 1 (omega arith)), λ k some all. elim (least-from (divided_by ps) 512 1 k some (all_divided ps k all)) [ inl f ↦ f | inr f ↦ omega arith ]),
+        (omega arith, divided_all ps (cycle_of ps) (passes_from (divided_by ps) 512 1 (omega arith)), λ k some all. elim (least_from (divided_by ps) 512 1 k some (all_divided ps k all)) [ inl f ↦ f | inr f ↦ omega arith ]),
       )
-      | inr many ↦ inr (omega arith, λ k some all. elim (least-from (divided_by ps) 512 1 k some (all_divided ps k all)) [ inl f ↦ omega arith | inr f ↦ omega arith ])
+      | inr many ↦ inr (omega arith, λ k some all. elim (least_from (divided_by ps) 512 1 k some (all_divided ps k all)) [ inl f ↦ omega arith | inr f ↦ omega arith ])
     ]
 
 pub least_common : (ps : List ℕ) → cycle_of ps ≤ 512 → LeastCommon ps (cycle_of ps)
@@ -113,18 +113,18 @@ multiple ps h k least all =
     ]
 
 module _ (p : ℕ → Bool) where
-  first-is : (n h m : ℕ) → h ≤ m → m < h + n → p m ≡ true → ((k : ℕ) → h ≤ k → k < m → p k ≡ false) → first_from p h n ≡ m
+  first_is : (n h m : ℕ) → h ≤ m → m < h + n → p m ≡ true → ((k : ℕ) → h ≤ k → k < m → p k ≡ false) → first_from p h n ≡ m
   unfolding first_from
-  first-is zero h m low high here below = absurd (omega arith)
-  first-is (suc n) h m low high here below = elim (cases_eq h m) [
+  first_is zero h m low high here below = absurd (omega arith)
+  first_is (suc n) h m low high here below = elim (cases_eq h m) [
     | inl e ↦ rw (ap p e ∙ here) e
-    | inr ne ↦ rw (below h (omega arith) (omega arith)) (first-is n (suc h) m (omega arith) (omega arith) here (λ k l. below k (omega arith)))
+    | inr ne ↦ rw (below h (omega arith) (omega arith)) (first_is n (suc h) m (omega arith) (omega arith) here (λ k l. below k (omega arith)))
   ]
 
-  first-none : (n h : ℕ) → ((k : ℕ) → h ≤ k → k < h + n → p k ≡ false) → first_from p h n ≡ h + n
+  first_none : (n h : ℕ) → ((k : ℕ) → h ≤ k → k < h + n → p k ≡ false) → first_from p h n ≡ h + n
   unfolding first_from
-  first-none zero h below = omega arith
-  first-none (suc n) h below = rw (below h (omega arith) (omega arith)) (omega (arith, first-none n (suc h) (λ k l m. below k (omega arith) (omega arith))))
+  first_none zero h below = omega arith
+  first_none (suc n) h below = rw (below h (omega arith) (omega arith)) (omega (arith, first_none n (suc h) (λ k l m. below k (omega arith) (omega arith))))
 
 -- the search over the multiples of the cycle so far: nothing below h is a multiple of all
 abbrev pub Below : List SlotRow → SlotRow → ℕ → Type 0
@@ -134,13 +134,13 @@ module _ (rows : List SlotRow) (r : SlotRow) (cycle : ℕ) (is : cycle ≡ cycle
   pub least : LeastCommon (periods_of rows) cycle
   least = rw is (least_common (periods_of rows) (omega arith))
 
-  not-multiple : (k : ℕ) → (k % cycle ≡ 0 → ⊥) → divided_by (periods_of (rows ++ r ∷ [])) k ≡ false
-  not-multiple k not' =
+  not_multiple : (k : ℕ) → (k % cycle ≡ 0 → ⊥) → divided_by (periods_of (rows ++ r ∷ [])) k ≡ false
+  not_multiple k not' =
       let none : divided_by (periods_of rows) k ≡ false = elim (cases_Bool (divided_by (periods_of rows) k)) [ inl e ↦ absurd (not' (multiple (periods_of rows) cycle k least e)) | inr e ↦ e ] in
       divided_row rows r k ∙ and_left (divided_by (periods_of rows) k) (eqb (k % length (marks_of r)) 0) none
 
-  pub first-multiple : Below rows r cycle
-  first-multiple k low high = not-multiple k (λ z. absurd (omega (arith, mod-eq_of_lt high, z)))
+  pub first_multiple : Below rows r cycle
+  first_multiple k low high = not_multiple k (λ z. absurd (omega (arith, mod-eq_of_lt high, z)))
 
   pub next_multiple : (h : ℕ) → h % cycle ≡ 0 → (h % length (marks_of r) ≡ 0 → ⊥) → Below rows r h → Below rows r (h + cycle)
   next_multiple h whole not' below k low high =
@@ -148,14 +148,14 @@ module _ (rows : List SlotRow) (r : SlotRow) (cycle : ℕ) (is : cycle ≡ cycle
         | inl less ↦ below k low less
         | inr past ↦ elim (cases_eq k h) [
           | inl e ↦ divided_row rows r k ∙ and_right (divided_by (periods_of rows) k) (eqb (k % length (marks_of r)) 0) (ne_eqb _ 0 (λ z. not' (ap (λ x. x % length (marks_of r)) (sym e) ∙ z)))
-          | inr ne ↦ not-multiple k (λ z. absurd (omega (arith, between h k cycle whole past high, z)))
+          | inr ne ↦ not_multiple k (λ z. absurd (omega (arith, between h k cycle whole past high, z)))
         ]
       ]
 
-  pub at-multiple : (h : ℕ) → 1 ≤ h → h ≤ 512 → h % cycle ≡ 0 → h % length (marks_of r) ≡ 0 → Below rows r h → h ≡ cycle_of (periods_of (rows ++ r ∷ []))
-  at-multiple h some high whole here below =
+  pub at_multiple : (h : ℕ) → 1 ≤ h → h ≤ 512 → h % cycle ≡ 0 → h % length (marks_of r) ≡ 0 → Below rows r h → h ≡ cycle_of (periods_of (rows ++ r ∷ []))
+  at_multiple h some high whole here below =
       let all = divided_row rows r h ∙ and_from (divided_by (periods_of rows) h) _ (all_divided (periods_of rows) h (all_multiple (periods_of rows) cycle h least.1 whole)) (eq-eqb _ 0 here) in
-      sym (first-is (divided_by (periods_of (rows ++ r ∷ []))) 512 1 h some (omega arith) all below)
+      sym (first_is (divided_by (periods_of (rows ++ r ∷ []))) 512 1 h some (omega arith) all below)
 
-  pub no-multiple : (h : ℕ) → 512 < h → Below rows r h → 513 ≡ cycle_of (periods_of (rows ++ r ∷ []))
-  no-multiple h past below = sym (first-none (divided_by (periods_of (rows ++ r ∷ []))) 512 1 (λ k low high. below k low (omega arith)))
+  pub no_multiple : (h : ℕ) → 512 < h → Below rows r h → 513 ≡ cycle_of (periods_of (rows ++ r ∷ []))
+  no_multiple h past below = sym (first_none (divided_by (periods_of (rows ++ r ∷ []))) 512 1 (λ k low high. below k low (omega arith)))

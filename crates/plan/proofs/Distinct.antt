@@ -106,25 +106,25 @@ module _ (l : CardList) (k : Card) (no-task : has k.id (map (λ t. t.id) (tasks_
   free : has k.id (ids_in l.count l.cards) ≡ false
   free = ap (has k.id) (sym (ids_same (take l.count l.cards))) ∙ no-task
 
-  pub room-left : l.count < 32
-  room-left =
+  pub room_left : l.count < 32
+  room_left =
       omega (arith, room (take l.count l.cards) k.id l.numbered k.numbered free, length-take l.count l.cards, l.full, l.few)
 
   inside : l.count < length l.cards
-  inside = omega (arith, room-left, l.full)
+  inside = omega (arith, room_left, l.full)
 
-  pub still-distinct : distinct (ids_in (l.count + 1) (set l.cards l.count k)) ≡ true
-  still-distinct =
+  pub still_distinct : distinct (ids_in (l.count + 1) (set l.cards l.count k)) ≡ true
+  still_distinct =
       ap (λ cs. distinct (map (λ c. c.id) cs)) (take_more_set l.cards l.count k inside)
       ∙ ap distinct (map_push (λ c. c.id) (take l.count l.cards) k)
       ∙ distinct_push (ids_in l.count l.cards) k.id l.numbered free
 
-  pub one-task-more : map task_of (take (l.count + 1) (set l.cards l.count k)) ≡ tasks_of l ++ task_of k ∷ []
-  one-task-more =
+  pub one_task_more : map task_of (take (l.count + 1) (set l.cards l.count k)) ≡ tasks_of l ++ task_of k ∷ []
+  one_task_more =
       ap (map task_of) (take_more_set l.cards l.count k inside) ∙ map_push task_of (take l.count l.cards) k
 
 module _ (cards : List Card) (i n : ℕ) (k : Card) (inside : i < length cards) (is : k ≡ get_or cards i k) (so : has n (map (λ c. c.id) (drop i cards)) ≡ has n (map (λ c. c.id) cards)) where
-  pub next-number : has n (map (λ c. c.id) cards) ≡ (eqb n k.id || has n (map (λ c. c.id) (drop (i + 1) cards)))
-  next-number =
+  pub next_number : has n (map (λ c. c.id) cards) ≡ (eqb n k.id || has n (map (λ c. c.id) (drop (i + 1) cards)))
+  next_number =
       sym so ∙ at_drop_more (λ l. has n (map (λ c. c.id) l)) cards i k inside
       ∙ ap (λ x. eqb n x.id || has n (map (λ c. c.id) (drop (i + 1) cards))) (sym is)

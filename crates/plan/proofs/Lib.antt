@@ -4,4 +4,4 @@ pub mod Cycles
 pub mod Distinct
 pub mod Taken
 pub mod Onward
-pub mod Lawful
+pub mod Lawfulness

@@ -18,14 +18,14 @@ module _ (line : ℕ) (so : Contents) (text one behind : List ℕ) (cut : parts 
   first : with_lines line so (parts 10 text) ≡ and_then (content line (parts 44 one)) (λ c. and_then (with_content so c) (λ more. with_lines (line + 1) more (parts 10 behind)))
   first = ap (with_lines line so) cut ∙ step line so one (parts 10 behind) (parts_some 10 behind) short
 
-  pub bad-fields : (f : Fault) → Err f ≡ content line (parts 44 one) → with_lines line so (parts 10 text) ≡ Err f
-  bad-fields f e = first ∙ ap (λ r. and_then r (λ c. and_then (with_content so c) (λ more. with_lines (line + 1) more (parts 10 behind)))) (sym e)
+  pub bad_fields : (f : Fault) → Err f ≡ content line (parts 44 one) → with_lines line so (parts 10 text) ≡ Err f
+  bad_fields f e = first ∙ ap (λ r. and_then r (λ c. and_then (with_content so c) (λ more. with_lines (line + 1) more (parts 10 behind)))) (sym e)
 
   after : (k : Content) → Ok k ≡ content line (parts 44 one) → with_lines line so (parts 10 text) ≡ and_then (with_content so k) (λ more. with_lines (line + 1) more (parts 10 behind))
   after k e = first ∙ ap (λ r. and_then r (λ c. and_then (with_content so c) (λ more. with_lines (line + 1) more (parts 10 behind)))) (sym e)
 
-  pub bad-line : (k : Content) (f : Fault) → Ok k ≡ content line (parts 44 one) → Err f ≡ with_content so k → with_lines line so (parts 10 text) ≡ Err f
-  bad-line k f e g = after k e ∙ ap (λ r. and_then r (λ more. with_lines (line + 1) more (parts 10 behind))) (sym g)
+  pub bad_line : (k : Content) (f : Fault) → Ok k ≡ content line (parts 44 one) → Err f ≡ with_content so k → with_lines line so (parts 10 text) ≡ Err f
+  bad_line k f e g = after k e ∙ ap (λ r. and_then r (λ more. with_lines (line + 1) more (parts 10 behind))) (sym g)
 
-  pub next-line : (k : Content) (more : Contents) → Ok k ≡ content line (parts 44 one) → Ok more ≡ with_content so k → with_lines line so (parts 10 text) ≡ with_lines (line + 1) more (parts 10 behind)
-  next-line k more e g = after k e ∙ ap (λ r. and_then r (λ m. with_lines (line + 1) m (parts 10 behind))) (sym g)
+  pub next_line : (k : Content) (more : Contents) → Ok k ≡ content line (parts 44 one) → Ok more ≡ with_content so k → with_lines line so (parts 10 text) ≡ with_lines (line + 1) more (parts 10 behind)
+  next_line k more e g = after k e ∙ ap (λ r. and_then r (λ m. with_lines (line + 1) m (parts 10 behind))) (sym g)

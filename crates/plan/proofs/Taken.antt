@@ -5,14 +5,14 @@ use Rattle.std.proofs.lemmas.Option.{slice_get-get_or, slice_get_past}
 use Rattle.std.specs.List.{slice_get}
 
 module _ {X Y : Type 0} (f : X → Y) (xs : List X) (n i : ℕ) where
-  pub nth-used : (d : X) → i < n → n ≤ length xs → Some (f (get_or xs i d)) ≡ slice_get (map f (take n xs)) i
-  nth-used d inside fits =
+  pub nth_used : (d : X) → i < n → n ≤ length xs → Some (f (get_or xs i d)) ≡ slice_get (map f (take n xs)) i
+  nth_used d inside fits =
       let long : i < length (take n xs) = simp length-take (omega arith) in
       let same = get_or-map f (take n xs) i d (f d) long ∙ ap f (get_or-take n xs i d inside) in
       sym (slice_get-get_or (map f (take n xs)) i (f d) (simp length-map long) ∙ ap Some same)
 
-  pub nth-unused : n ≤ i → None ≡ slice_get (map f (take n xs)) i
-  nth-unused past = sym (slice_get_past (map f (take n xs)) i (simp (length-map, length-take) (omega arith)))
+  pub nth_unused : n ≤ i → None ≡ slice_get (map f (take n xs)) i
+  nth_unused past = sym (slice_get_past (map f (take n xs)) i (simp (length-map, length-take) (omega arith)))
 
 -- ---- what a look at place n tells of a list
 

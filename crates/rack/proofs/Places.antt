@@ -16,14 +16,14 @@ module _ (place : List ℕ) (s taken : ℕ) (inside : s < length place) (placed 
   here : (t : ℕ) → t ≡ s → get_or (set place s (taken + 1)) t 0 ≡ taken + 1
   here t e = ap (λ i. get_or (set place s (taken + 1)) i 0) e ∙ get_or-set_same place s (taken + 1) 0 inside
 
-  pub placed-more : (t : ℕ) → get_or (set place s (taken + 1)) t 0 ≤ taken + 1
-  placed-more t = elim (cases_eq t s) [
+  pub placed_more : (t : ℕ) → get_or (set place s (taken + 1)) t 0 ≤ taken + 1
+  placed_more t = elim (cases_eq t s) [
     | inl e ↦ omega (arith, here t e)
     | inr other ↦ omega (arith, get_or-set_other place s t (taken + 1) 0 other, placed t)
   ]
 
-  pub keeps-more : (table : ℕ → ℕ → ℕ) (least : List (List ℕ)) (row : List ℕ) (p : ℕ) → p ≡ taken + 1 → p < length least → Keeps table place least → ((j : ℕ) → j < 8 → get_or row j 0 ≡ table (suc j) s) → Keeps table (set place s (taken + 1)) (set least p row)
-  keeps-more table least row p next room keeps new t j (pos, lt) = elim (cases_eq t s) [
+  pub keeps_more : (table : ℕ → ℕ → ℕ) (least : List (List ℕ)) (row : List ℕ) (p : ℕ) → p ≡ taken + 1 → p < length least → Keeps table place least → ((j : ℕ) → j < 8 → get_or row j 0 ≡ table (suc j) s) → Keeps table (set place s (taken + 1)) (set least p row)
+  keeps_more table least row p next room keeps new t j (pos, lt) = elim (cases_eq t s) [
     | inl e ↦
         let at : get_or (set place s (taken + 1)) t 0 ≡ p = here t e ∙ sym next in
         ap (λ q. kept_at (set least p row) q j) at

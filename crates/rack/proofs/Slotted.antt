@@ -13,7 +13,7 @@ use Rattle.rack.specs.Cycle.{Periodic, repeated, cycle_table, least_window}
 use Rattle.rack.specs.Least.{Least}
 use Rattle.rack.specs.Slots.{gives, slot_row, slot_table}
 use Rattle.rack.proofs.Counted.{zeros}
-use Rattle.rack.specs.CycleLemmas.{repeated_is, one-cycle}
+use Rattle.rack.specs.CycleLemmas.{repeated_is, one_cycle}
 use Rattle.supply.specs.Window.{window}
 
 -- a multiple of the period later, the remainder is the same
@@ -67,9 +67,9 @@ module _ (rows : List (List Bool)) (counts : List ℕ) (h : ℕ) (few : length r
   pub table_is : (j n : ℕ) → cycle_table counts h j n ≡ slot_table rows j n
   table_is j n = ap (λ r. least_window j r h n) (fun_ext given_is) ∙ ap (λ k. least_window j (slot_row rows) k n) cycle
 
-  pub table-least : (j n : ℕ) → Least (λ x. window j (slot_row rows) x n) (slot_table rows j n)
-  table-least j n =
-      rw (← cycle) (one-cycle j h (slot_row rows) (row_round h rows common.1) n (omega (arith, common.0)))
+  pub table_least : (j n : ℕ) → Least (λ x. window j (slot_row rows) x n) (slot_table rows j n)
+  table_least j n =
+      rw (← cycle) (one_cycle j h (slot_row rows) (row_round h rows common.1) n (omega (arith, common.0)))
 
 -- ---- counted row after row: in each tick x that is asked for, the counts so far are those of the first n rows
 

@@ -157,11 +157,11 @@ runs_step id s e t es sound pos (starts x) ih held latest =
 runs_step id s e t es sound pos (tick x) ih held latest =
     let next = ih (ap (λ r. r.held) x.row ∙ held) (ap (λ r. r.latest) x.row ∙ latest ∙ ap (λ r. Some (released_at r)) (sym x.row)) in
     let same : due (t.slot id) - t.clock ≡ due (s.slot id) - s.clock - ticks e.1 = omega (arith, ap due x.row, x.clock, x.ticking) in
-    counts_more id (due (s.slot id) - s.clock) e es _ (t.slot id).lacking pos x.leaving (rw same at next) (ran-more x.ran x.named x.lacked (ap (λ r. r.lacking) x.row))
+    counts_more id (due (s.slot id) - s.clock) e es _ (t.slot id).lacking pos x.leaving (rw same at next) (ran_more x.ran x.named x.lacked (ap (λ r. r.lacking) x.row))
   where
-    ran-more : (b : Bool) → naming id e.1 ≡ cond b 1 0 → (b ≡ true → 0 < (s.slot id).lacking) → (t.slot id).lacking ≡ (s.slot id).lacking - cond b 1 0 → naming id e.1 + (t.slot id).lacking ≡ (s.slot id).lacking
-    ran-more true n l q = omega (arith, l refl)
-    ran-more false n l q = omega arith
+    ran_more : (b : Bool) → naming id e.1 ≡ cond b 1 0 → (b ≡ true → 0 < (s.slot id).lacking) → (t.slot id).lacking ≡ (s.slot id).lacking - cond b 1 0 → naming id e.1 + (t.slot id).lacking ≡ (s.slot id).lacking
+    ran_more true n l q = omega (arith, l refl)
+    ran_more false n l q = omega arith
 
 -- from a state on, the ticks that name id before the deadline of its job in hand are those that the job lacks
 pub runs_all : (row : ℕ → ℕ) (id : ℕ) (s : State) (cs : List Call) → id < 32 → Kept row s → Runs id s (shift s cs)

@@ -6,7 +6,7 @@ use Rattle.schedule.specs.declared.TaskRow.{TaskRow}
 use Rattle.schedule.specs.Counting.{sum}
 use Rattle.schedule.specs.Order.{unfinished, due, ahead, rank, runs, word, names, OrderMeans}
 use Rattle.schedule.proofs.Words.{bits_lt, names_at, names_above}
-use Rattle.schedule.proofs.Ranks.{StrictOrder, runs-before, g-run, at-most-g}
+use Rattle.schedule.proofs.Ranks.{StrictOrder, runs_before, g_run, at_most_g}
 
 -- by the first number, and among equals by the second
 abbrev lex : ℕ → ℕ → ℕ → ℕ → Bool
@@ -76,28 +76,28 @@ module _ (slot : ℕ → TaskRow) (g : ℕ) where
   abbrev waiting : ℕ → Bool
   waiting i = unfinished (slot i)
 
-  runs-first : (i k : ℕ) → i < 32 → k < 32 → runs slot g i ≡ true → unfinished (slot k) ≡ true → runs slot g k ≡ false → ahead slot i k ≡ true
+  runs_first : (i k : ℕ) → i < 32 → k < 32 → runs slot g i ≡ true → unfinished (slot k) ≡ true → runs slot g k ≡ false → ahead slot i k ≡ true
   unfolding rank
-  runs-first i k bi bk ri u rk = runs-before 32 waiting (ahead slot) (ahead_order slot) g i k bi bk u ri rk
+  runs_first i k bi bk ri u rk = runs_before 32 waiting (ahead slot) (ahead_order slot) g i k bi bk u ri rk
 
   -- a job that runs is due no later than one that is left out
-  pub runs-sooner : (i k : ℕ) → i < 32 → k < 32 → unfinished (slot k) ≡ true → runs slot g i ≡ true → runs slot g k ≡ false → due (slot i) ≤ due (slot k)
-  runs-sooner i k bi bk u ri rk = ahead_due slot i k (runs-first i k bi bk ri u rk)
+  pub runs_sooner : (i k : ℕ) → i < 32 → k < 32 → unfinished (slot k) ≡ true → runs slot g i ≡ true → runs slot g k ≡ false → due (slot i) ≤ due (slot k)
+  runs_sooner i k bi bk u ri rk = ahead_due slot i k (runs_first i k bi bk ri u rk)
 
   -- where an unfinished job is left out, g others run
-  pub others-run : (k : ℕ) → k < 32 → unfinished (slot k) ≡ true → runs slot g k ≡ false → g ≤ sum 32 (λ i. cond (runs slot g i) 1 0)
+  pub others_run : (k : ℕ) → k < 32 → unfinished (slot k) ≡ true → runs slot g k ≡ false → g ≤ sum 32 (λ i. cond (runs slot g i) 1 0)
   unfolding rank
-  others-run k bk u rk = g-run 32 waiting (ahead slot) (ahead_order slot) g k bk u rk
+  others_run k bk u rk = g_run 32 waiting (ahead slot) (ahead_order slot) g k bk u rk
 
-  pub few-run : sum 32 (λ i. cond (runs slot g i) 1 0) ≤ g
+  pub few_run : sum 32 (λ i. cond (runs slot g i) 1 0) ≤ g
   unfolding rank
-  few-run = at-most-g 32 waiting (ahead slot) (ahead_order slot) g
+  few_run = at_most_g 32 waiting (ahead slot) (ahead_order slot) g
 
-  pub order-means : OrderMeans slot g
-  order-means =
+  pub order_means : OrderMeans slot g
+  order_means =
       record {
-        few = few-run;
-        full = λ k below u out. le_antisymm few-run (others-run k below u out);
-        first = runs-first;
+        few = few_run;
+        full = λ k below u out. le_antisymm few_run (others_run k below u out);
+        first = runs_first;
         named = names_runs slot g;
       }

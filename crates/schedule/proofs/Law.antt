@@ -11,11 +11,11 @@ use Rattle.schedule.specs.declared.Answer.TheVariants.{Level as LevelIs, Passed,
 use Rattle.schedule.specs.State.{State, fresh}
 use Rattle.schedule.specs.Test.{LeastLevel, witness}
 use Rattle.schedule.specs.Order.{released_at, due, runs, word, names}
-use Rattle.schedule.specs.Calls.{admitted, released, refusal, changed, answer_by, state_by, reply, about, answer, after, RefusalLaw}
+use Rattle.schedule.specs.Calls.{admitted, released, refusal, changed, answer_by, state_by, reply, task_of, answer, after, RefusalLaw}
 use Rattle.schedule.specs.Entries.{Entry, calls_of, named_by, clock_of, deadline_of, UnderWay}
 use Rattle.schedule.specs.Shift.{shift, after_all, Served, Guarantee}
 use Rattle.schedule.proofs.Sums.{sum_le}
-use Rattle.schedule.proofs.Jobs.{few-run, names_runs, names_high, runs_lacks}
+use Rattle.schedule.proofs.Jobs.{few_run, names_runs, names_high, runs_lacks}
 use Rattle.schedule.proofs.Rows.{put_same}
 use Rattle.schedule.proofs.Invariant.{Kept, fresh_kept}
 use Rattle.schedule.proofs.Steps.{keeps, admit_asked, level_asked, ReleaseAsked, release_asked}
@@ -40,7 +40,7 @@ tick_answer_lem s c g w = go (refusal s c)
     go None e = tick_reply s c g w e
     go (Some r) e = let z : ◌≡◌ {A = ℕ} 0 1 = cc in absurd (omega arith)
 
-level_reply : (row : ℕ → ℕ) (s : State) (c : Call) (j : ℕ) → refusal s c ≡ None → Kept row (changed s c) → LevelIs j ≡ reply s c → LeastLevel (changed s c).table (changed s c).slot (about c) j
+level_reply : (row : ℕ → ℕ) (s : State) (c : Call) (j : ℕ) → refusal s c ≡ None → Kept row (changed s c) → LevelIs j ≡ reply s c → LeastLevel (changed s c).table (changed s c).slot (task_of c) j
 level_reply row s (Admit id run period deadline) j none kept e =
     let is : j ≡ witness s.table (changed s (Admit id run period deadline)).slot id = cc in
     rw is (kept.levels id (admit_asked s id run period deadline none).below (ap (λ r. r.held) (put_same s.slot id (admitted run period deadline) id refl)))
@@ -54,7 +54,7 @@ level_reply row s Tick j none kept e = let z : ◌≡◌ {A = ℕ} 0 1 = cc in a
 level_answer_lem : (row : ℕ → ℕ) (s : State) (c : Call) (j : ℕ) → Kept row (after s c) → LevelIs j ≡ answer s c → Served s c j
 level_answer_lem row s c j = go (refusal s c) refl
   where
-    go : (o : Option Refusal) → refusal s c ≡ o → Kept row (state_by o s (changed s c)) → LevelIs j ≡ answer_by o (reply s c) → LeastLevel (state_by o s (changed s c)).table (state_by o s (changed s c)).slot (about c) j
+    go : (o : Option Refusal) → refusal s c ≡ o → Kept row (state_by o s (changed s c)) → LevelIs j ≡ answer_by o (reply s c) → LeastLevel (state_by o s (changed s c)).table (state_by o s (changed s c)).slot (task_of c) j
     go None none kept e = level_reply row s c j none kept e
     go (Some r) some kept e = let z : ◌≡◌ {A = ℕ} 0 1 = cc in absurd (omega arith)
 
@@ -88,8 +88,8 @@ module _ (row : ℕ → ℕ) (table : ℕ → ℕ → ℕ) (windows : Windows ro
   kept_at : (before : List Entry) → Kept row (at before)
   kept_at before = kept_all row made (calls_of before) (fresh_kept row table windows)
 
-  job-law : (before behind : List Entry) (id run : ℕ) → shift made calls ≡ before ++ ((Release id run, Passed) ∷ behind) → Counts id (deadline_of id before) behind run
-  job-law before behind id run e =
+  job_law : (before behind : List Entry) (id run : ℕ) → shift made calls ≡ before ++ ((Release id run, Passed) ∷ behind) → Counts id (deadline_of id before) behind run
+  job_law before behind id run e =
       subst (λ n. Counts id n behind run) deadline
       (subst (λ es. Counts id ((at before).slot id).deadline es run) (sym sp.rest) (release_counts row (at before) id run sp.calls (kept_at before) none))
     where
@@ -107,11 +107,11 @@ module _ (row : ℕ → ℕ) (table : ℕ → ℕ → ℕ) (windows : Windows ro
           knows_all row id 0 made (calls_of before) asked.below (fresh_kept row table windows) (λ h. absurd (true≢false (sym h))) asked.held
           ∙ ap (deadline_of id) (sym sp.past)
 
-  named-few : (slot : ℕ → TaskRow) (g : ℕ) → named_by (word slot g) ≤ g
-  named-few slot g = omega (arith, few-run slot g, sum_le 32 (names (word slot g)) (λ i. cond (runs slot g i) 1 0) (λ i h. omega (arith, names_runs slot g i h)))
+  named_few : (slot : ℕ → TaskRow) (g : ℕ) → named_by (word slot g) ≤ g
+  named_few slot g = omega (arith, few_run slot g, sum_le 32 (names (word slot g)) (λ i. cond (runs slot g i) 1 0) (λ i h. omega (arith, names_runs slot g i h)))
 
-  named-runs : (slot : ℕ → TaskRow) (g id : ℕ) → 0 < names (word slot g) id → (id < 32) × (runs slot g id ≡ true)
-  named-runs slot g id pos = go (cases_lt id 32)
+  named_runs : (slot : ℕ → TaskRow) (g id : ℕ) → 0 < names (word slot g) id → (id < 32) × (runs slot g id ≡ true)
+  named_runs slot g id pos = go (cases_lt id 32)
     where
       by : (b : Bool) → names (word slot g) id ≡ cond b 1 0 → b ≡ true
       by true e = refl
@@ -121,21 +121,21 @@ module _ (row : ℕ → ℕ) (table : ℕ → ℕ → ℕ) (windows : Windows ro
       go (inl h) = (h, by (runs slot g id) (names_runs slot g id h))
       go (inr h) = absurd (omega (arith, names_high slot g id h))
 
-  under-way : (before : List Entry) (id : ℕ) → before ≡ shift made (calls_of before) → id < 32 → 0 < ((at before).slot id).lacking → UnderWay id before
-  under-way before id past below lacks = go (under_all row id 0 made (calls_of before) below (fresh_kept row table windows) (λ h. absurd (true≢false (sym h))) lacks)
+  under_way : (before : List Entry) (id : ℕ) → before ≡ shift made (calls_of before) → id < 32 → 0 < ((at before).slot id).lacking → UnderWay id before
+  under_way before id past below lacks = go (under_all row id 0 made (calls_of before) below (fresh_kept row table windows) (λ h. absurd (true≢false (sym h))) lacks)
     where
       go : CarriedOn id made (shift made (calls_of before)) ⊎ UnderFrom id 0 (shift made (calls_of before)) → UnderWay id before
       go (inl h) = absurd (omega (arith, h.0))
       go (inr u) = record { before = u.before; run = u.run; behind = u.behind; split = past ∙ u.split; goes_on = u.goes_on }
 
-  tick-law : (before behind : List Entry) (c : Call) (g w : ℕ) → shift made calls ≡ before ++ ((c, Ticked g w) ∷ behind) → (g ≡ row (clock_of before)) × (named_by w ≤ g) × ((id : ℕ) → 0 < names w id → UnderWay id before)
-  tick-law before behind c g w e =
+  tick_law : (before behind : List Entry) (c : Call) (g w : ℕ) → shift made calls ≡ before ++ ((c, Ticked g w) ∷ behind) → (g ≡ row (clock_of before)) × (named_by w ≤ g) × ((id : ℕ) → 0 < names w id → UnderWay id before)
+  tick_law before behind c g w e =
       let given : (at before).clock + 0 ≡ clock_of before = omega (arith, clock_all made (calls_of before), ap clock_of sp.past) in (
         is.0 ∙ (kept_at before).rows 0 ∙ ap row given,
-        rw (is.1, is.0) (named-few (at before).slot ((at before).row 0)),
+        rw (is.1, is.0) (named_few (at before).slot ((at before).row 0)),
         λ id pos.
-            let r = named-runs (at before).slot ((at before).row 0) id (rw is.1 at pos) in
-            under-way before id sp.past r.0 (runs_lacks (at before).slot ((at before).row 0) id r.1),
+            let r = named_runs (at before).slot ((at before).row 0) id (rw is.1 at pos) in
+            under_way before id sp.past r.0 (runs_lacks (at before).slot ((at before).row 0) id r.1),
       )
     where
       sp : Split made before (c, Ticked g w) behind
@@ -145,10 +145,10 @@ module _ (row : ℕ → ℕ) (table : ℕ → ℕ → ℕ) (windows : Windows ro
       is = tick_answer_lem (at before) c g w sp.answered
 
 pub shift_law : Guarantee
-shift_law row table windows calls =
+shift_law row table bounded windows calls =
     record {
-      jobs = job-law row table windows calls;
-      ticked = tick-law row table windows calls;
+      jobs = job_law row table windows calls;
+      ticked = tick_law row table windows calls;
       answers = λ before behind c a e. (split_at (fresh row table) calls before (c, a) behind e).answered;
       levels = λ before behind c j e. level_answer_lem row _ c j (keeps row _ c (kept_at row table windows calls before)) (split_at (fresh row table) calls before (c, LevelIs j) behind e).answered;
     }

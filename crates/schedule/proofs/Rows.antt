@@ -14,8 +14,8 @@ module _ (slot : ℕ → TaskRow) (id : ℕ) (r : TaskRow) where
   put_other i ne = rw (ne_eqb i id ne)
 
   -- what holds of the new row at its place, and of each other row at its own
-  pub put-elim : (P : ℕ → TaskRow → Type 0) → P id r → ((i : ℕ) → (i ≡ id → ⊥) → P i (slot i)) → (i : ℕ) → P i (put slot id r i)
-  put-elim P here there i = go (eqb i id) refl
+  pub put_elim : (P : ℕ → TaskRow → Type 0) → P id r → ((i : ℕ) → (i ≡ id → ⊥) → P i (slot i)) → (i : ℕ) → P i (put slot id r i)
+  put_elim P here there i = go (eqb i id) refl
     where
       go : (b : Bool) → eqb i id ≡ b → P i (cond b r (slot i))
       go true e = rw (eqb-true i id e) here
@@ -32,4 +32,4 @@ picked_le false x y h = omega arith
 
 -- the rows that a list holds, with one of them set
 pub put_set : (rows : List TaskRow) (id : ℕ) (r : TaskRow) → id < length rows → (i : ℕ) → get_or (set rows id r) i blank ≡ put (λ k. get_or rows k blank) id r i
-put_set rows id r below = put-elim (λ k. get_or rows k blank) id r (λ i x. get_or (set rows id r) i blank ≡ x) (get_or-set_same rows id r blank below) (λ i ne. get_or-set_other rows id i r blank ne)
+put_set rows id r below = put_elim (λ k. get_or rows k blank) id r (λ i x. get_or (set rows id r) i blank ≡ x) (get_or-set_same rows id r blank below) (λ i ne. get_or-set_other rows id i r blank ne)

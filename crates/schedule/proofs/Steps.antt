@@ -15,7 +15,7 @@ use Rattle.schedule.specs.Entries.{Entry, ticks, naming, accepted, leaves, deadl
 use Rattle.schedule.proofs.Jobs.{names_runs, runs_lacks}
 use Rattle.schedule.proofs.Rest.{earliest}
 use Rattle.schedule.proofs.Rows.{put_same, put_other}
-use Rattle.schedule.proofs.Invariant.{Kept, tick-kept, release-kept, admit-kept, withdraw-kept, quiet_lacks}
+use Rattle.schedule.proofs.Invariant.{Kept, tick_kept, release_kept, admit_kept, withdraw_kept, quiet_lacks}
 
 ask_none : (b : Bool) (r : Refusal) (o : Option Refusal) → ask b r o ≡ None → (b ≡ true) × (o ≡ None)
 ask_none true r o e = (refl, e)
@@ -72,13 +72,13 @@ release_asked s id run e =
 changed_kept : (row : ℕ → ℕ) (s : State) (c : Call) → Kept row s → refusal s c ≡ None → Kept row (changed s c)
 changed_kept row s (Admit id run period deadline) kept e =
     let a = admit_asked s id run period deadline e in
-    admit-kept row s kept id run period deadline a.below a.good a.free a.pass
+    admit_kept row s kept id run period deadline a.below a.good a.free a.pass
 changed_kept row s (Level id) kept e = kept
-changed_kept row s (Withdraw id) kept e = withdraw-kept row s kept id (withdraw_asked s id e).2
+changed_kept row s (Withdraw id) kept e = withdraw_kept row s kept id (withdraw_asked s id e).2
 changed_kept row s (Release id run) kept e =
     let a = release_asked s id run e in
-    release-kept row s kept id run a.below a.held a.one a.most a.waited
-changed_kept row s Tick kept e = tick-kept row s kept
+    release_kept row s kept id run a.below a.held a.one a.most a.waited
+changed_kept row s Tick kept e = tick_kept row s kept
 
 -- every call keeps the invariant
 pub keeps : (row : ℕ → ℕ) (s : State) (c : Call) → Kept row s → Kept row (after s c)

@@ -3,14 +3,14 @@ use Rattle.schedule.specs.State.{fresh}
 use Rattle.schedule.specs.Shift.{ShiftLaw, shift}
 use Rattle.schedule.proofs.Law.{shift_law}
 use Rattle.dispatch.specs.Entries.{entries_of}
-use Rattle.dispatch.proofs.Shifts.{carried_none, carried-more}
+use Rattle.dispatch.proofs.Shifts.{carried_none, carried_more}
 use Rattle.dispatch.proofs.shift.run_shift.Goals as goal
 
 pub loop-i-init : goal.loop-i-init
 loop-i-init g c = carried_none _ _ c.args.calls.now c.args.answers.now refl
 
 pub loop-i-preserved : goal.loop-i-preserved
-loop-i-preserved g c = carried-more _ _ _ c.args.calls.now c.args.answers.now c.loop-i.answers c.loop-i.i _ c.carry-out.result c.loop-i.invariant (omega arith) (omega arith) c.carry-out.ensures.answer c.carry-out.ensures.after
+loop-i-preserved g c = carried_more _ _ _ c.args.calls.now c.args.answers.now c.loop-i.answers c.loop-i.i _ c.carry-out.result c.loop-i.invariant (omega arith) (omega arith) c.carry-out.ensures.answer c.carry-out.ensures.after
 
 pub returns : goal.returns
 returns g c =

@@ -3,7 +3,7 @@ use Rattle.std.proofs.lemmas.Bool.{and_from, and_left, and_right, not-true, not-
 use Rattle.schedule.specs.Test.{unserved, witness}
 use Rattle.dispatch.specs.Found.{task_found}
 use Rattle.dispatch.specs.Rows.{slots}
-use Rattle.dispatch.proofs.Tests.{unserved-first, all_served, none_witness, task_some}
+use Rattle.dispatch.proofs.Tests.{unserved_first, all_served, none_witness, task_some}
 use Rattle.dispatch.proofs.test.first_unserved.Goals as goal
 use Rattle.dispatch.proofs.test.first_unserved.Goals.{else-holds-via-then-holds+else-is-none, else-holds-via-else-holds}
 
@@ -24,7 +24,7 @@ returns-then-is-none g c =
     let table = g.S.Supply.table c.args.supply.now in
     let held = sym c.holds.ensures ∙ c.if-holds.true in
     let none = not-false _ (sym (none_witness _ _ _ held c.witness.ensures) ∙ c.if-is-none.ensures) in
-    task_some c.loop-k.k c.loop-k-test.true ∙ ap task_found (sym (unserved-first table slot c.loop-k.k c.loop-k-test.true (and_from _ _ held none) c.loop-k.invariant))
+    task_some c.loop-k.k c.loop-k-test.true ∙ ap task_found (sym (unserved_first table slot c.loop-k.k c.loop-k-test.true (and_from _ _ held none) c.loop-k.invariant))
 
 pub returns : goal.returns
 returns g c =

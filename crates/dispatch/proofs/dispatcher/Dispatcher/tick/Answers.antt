@@ -6,19 +6,19 @@ use Rattle.schedule.specs.Calls.{changed}
 use Rattle.schedule.specs.Order.{word, runs, spent}
 use Rattle.dispatch.specs.Dispatcher.{state_of}
 use Rattle.dispatch.specs.Rows.{slots}
-use Rattle.dispatch.proofs.Refusals.{tick-ends, tick-passes, same_state}
+use Rattle.dispatch.proofs.Refusals.{tick_ends, tick_passes, same_state}
 use Rattle.dispatch.proofs.dispatcher.Dispatcher.tick.Goals as goal
 
 pub returns-then-self-ge-MAX-CLOCK : goal.returns-then-self-ge-MAX-CLOCK
 returns-then-self-ge-MAX-CLOCK g c =
     let s = state_of g.S.Supply.row g.S.Supply.table c.args.self.now in
-    let e = tick-ends s c.if-self-ge-MAX-CLOCK.true in
+    let e = tick_ends s c.if-self-ge-MAX-CLOCK.true in
     record { answer = e.0; after = e.1; same = λ _. refl }
 
 pub returns : goal.returns
 returns g c =
     let s = state_of g.S.Supply.row g.S.Supply.table c.args.self.now in
-    let e = tick-passes s c.if-self-ge-MAX-CLOCK.false in
+    let e = tick_passes s c.if-self-ge-MAX-CLOCK.false in
     let next = c.next-tick-given.ensures in
     let slot = ap (λ t. slots t.table.rows) next.tasks in
     let ran = c.run-ran.ensures.word ∙ ap (λ f. word f c.next-tick-given.result) slot in

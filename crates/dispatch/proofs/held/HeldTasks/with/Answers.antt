@@ -3,7 +3,7 @@ use Rattle.task.specs.Task.{task_of}
 use Rattle.schedule.specs.Test.{charge, load}
 use Rattle.schedule.proofs.Sums.{sum_none, sum_more}
 use Rattle.dispatch.specs.Rows.{slots, row_of}
-use Rattle.dispatch.proofs.Loads.{load-few, placed, passed-by, other_adds, none_adds, with-own}
+use Rattle.dispatch.proofs.Loads.{load_few, placed, passed_by, other_adds, none_adds, with_own}
 use Rattle.dispatch.proofs.Tables.{some_by, none_by}
 use Rattle.dispatch.proofs.held.HeldTasks.with.Goals as goal
 use Rattle.dispatch.proofs.held.HeldTasks.with.Goals.{in-Some, in-default}
@@ -17,7 +17,7 @@ overflow-add-loads c =
     let slot = slots old.table.rows in
     let k = c.loop-k.k in
     let is = some_by (slot k).held _ _ c.in-Some.ensures in
-    omega (arith, c.loop-k.invariant.2 k (omega arith), old.loaded k c.loop-k-test.true is.0, load-few slot old.table.times k is.0, c.charge.ensures.few)
+    omega (arith, c.loop-k.invariant.2 k (omega arith), old.loaded k c.loop-k-test.true is.0, load_few slot old.table.times k is.0, c.charge.ensures.few)
 
 pub loop-k-preserved : goal.loop-k-preserved
 loop-k-preserved c =
@@ -44,7 +44,7 @@ loop-k-preserved c =
           let free = none_by (slot k).held _ w.in-default.ensures in
           rw (w.loads-is, w.own-is) (
             inv.0,
-            passed-by slot c.loop-k.loads k inv.0 c.loop-k-test.true want inv.1 free,
+            passed_by slot c.loop-k.loads k inv.0 c.loop-k-test.true want inv.1 free,
             λ i past. inv.2 i (omega arith),
             rw sum_more (omega (arith, inv.3, none_adds slot new.id new.deadline k free)),
             omega (arith, inv.4),
@@ -59,7 +59,7 @@ invariant-of-result c =
     let inv = c.loop-k.invariant in
     let all : c.loop-k.k ≡ 32 = omega arith in
     let whole = simp all at inv.3 in
-    let loaded = with-own slot new.id c.loop-k.own_val (row_of new) c.loop-k.loads inv.0 c.args.card.now.numbered c.requires refl whole (λ i less held. inv.1 i (omega arith) held) in (
+    let loaded = with_own slot new.id c.loop-k.own_val (row_of new) c.loop-k.loads inv.0 c.args.card.now.numbered c.requires refl whole (λ i less held. inv.1 i (omega arith) held) in (
       simp length-set inv.0,
       (λ k less held. rw c.id.ensures (loaded k less (ap (λ f. (f k).held) (sym c.with.ensures) ∙ held) ∙ ap (λ f. load f k) (sym c.with.ensures)), tt),
     )

@@ -1,7 +1,7 @@
 use Rattle.std.proofs.Common.{◌≡◌, length, sym, ap, ◌∙◌, arith, length-set}
 use Rattle.schedule.specs.Test.{load}
 use Rattle.dispatch.specs.Rows.{slots}
-use Rattle.dispatch.proofs.Loads.{placed, passed-by, load_by}
+use Rattle.dispatch.proofs.Loads.{placed, passed_by, load_by}
 use Rattle.dispatch.proofs.Tables.{some_by, none_by}
 use Rattle.dispatch.proofs.held.keeping.loads.Goals as goal
 use Rattle.dispatch.proofs.held.keeping.loads.Goals.{in-Some, in-default}
@@ -17,7 +17,7 @@ loop-k-preserved c =
           rw w.loads-is (simp length-set c.loop-k.invariant.0, more)
       | in-default w ↦
           let free = none_by (slot k).held _ w.in-default.ensures in
-          rw w.loads-is (c.loop-k.invariant.0, passed-by slot c.loop-k.loads k c.loop-k.invariant.0 c.loop-k-test.true (load slot) c.loop-k.invariant.1 free)
+          rw w.loads-is (c.loop-k.invariant.0, passed_by slot c.loop-k.loads k c.loop-k.invariant.0 c.loop-k-test.true (load slot) c.loop-k.invariant.1 free)
     ]
 
 pub returns : goal.returns

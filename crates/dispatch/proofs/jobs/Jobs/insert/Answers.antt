@@ -1,6 +1,6 @@
 use Rattle.std.proofs.Common.{◌≡◌, ◌-◌, ◌<◌, ◌≤◌, false, ◌||◌, eqb, get_or, sym, refl, ap, ◌∙◌, subst, arith}
 use Rattle.dispatch.specs.Keys.{among, Sorted}
-use Rattle.dispatch.proofs.Keys.{opened_more, closed-sorted, closed-holds}
+use Rattle.dispatch.proofs.Keys.{opened_more, closed_sorted, closed_holds}
 use Rattle.dispatch.proofs.jobs.Jobs.insert.Goals as goal
 use Rattle.dispatch.proofs.jobs.Jobs.insert.Goals.{then-loop-at-test+else-self-at, else-loop-at-test}
 
@@ -21,8 +21,8 @@ returns c =
     let few : c.loop-at.self.count < 32 = omega (arith, same, c.requires.few) in
     let new : among old c.loop-at.self.count c.args.key ≡ false = ap (λ n. among old n c.args.key) same ∙ c.requires.new in
     record {
-      sorted = closed-sorted old c.loop-at.self.keys c.loop-at.at c.loop-at.self.count c.args.key c.loop-at.invariant.1 whole few new stop;
+      sorted = closed_sorted old c.loop-at.self.keys c.loop-at.at c.loop-at.self.count c.args.key c.loop-at.invariant.1 whole few new stop;
       holds = λ x.
-          closed-holds old c.loop-at.self.keys c.loop-at.at c.loop-at.self.count c.args.key c.loop-at.invariant.1 whole few new stop x
+          closed_holds old c.loop-at.self.keys c.loop-at.at c.loop-at.self.count c.args.key c.loop-at.invariant.1 whole few new stop x
           ∙ ap (λ n. eqb c.args.key x || among old n x) same;
     }

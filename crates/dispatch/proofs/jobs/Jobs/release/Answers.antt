@@ -2,7 +2,7 @@ use Rattle.std.proofs.Common.{◌<◌, length, set, ap, ◌∙◌, arith, get_or
 use Rattle.schedule.specs.State.{put}
 use Rattle.dispatch.specs.Keys.{waits}
 use Rattle.dispatch.specs.Rows.{slots}
-use Rattle.dispatch.proofs.Waiting.{room-behind, new-key, joined-holds, kept_set}
+use Rattle.dispatch.proofs.Waiting.{room_behind, new_key, joined_holds, kept_set}
 use Rattle.dispatch.proofs.jobs.Jobs.release.Goals as goal
 
 pub join-requires : goal.join-requires
@@ -17,8 +17,8 @@ join-requires c =
       below = c.requires.below;
       released = ap (λ r. r.latest) (get_or-set_same rows id c.start.new.row _ inside ∙ c.start.ensures);
       sorted = c.leave.ensures.sorted;
-      few = room-behind (slots rows) id c.requires.below old.keys old.count c.requires.kept left.keys left.count c.leave.ensures.sorted c.leave.ensures.holds;
-      new = new-key (slots rows) id c.requires.below old.keys old.count c.requires.kept left.keys left.count c.leave.ensures.sorted c.leave.ensures.holds row;
+      few = room_behind (slots rows) id c.requires.below old.keys old.count c.requires.kept left.keys left.count c.leave.ensures.sorted c.leave.ensures.holds;
+      new = new_key (slots rows) id c.requires.below old.keys old.count c.requires.kept left.keys left.count c.leave.ensures.sorted c.leave.ensures.holds row;
     }
 
 pub returns : goal.returns
@@ -30,7 +30,7 @@ returns c =
     let now = c.join.new.self in
     let row = c.start.new.row in
     let inside : id < length rows = omega (arith, c.told-rows, c.requires.below) in
-    let holds = joined-holds (slots rows) id c.requires.below old.keys old.count c.requires.kept left.keys left.count c.leave.ensures.sorted c.leave.ensures.holds (slots (set rows id row) id) now.keys now.count c.join.ensures.holds in
+    let holds = joined_holds (slots rows) id c.requires.below old.keys old.count c.requires.kept left.keys left.count c.leave.ensures.sorted c.leave.ensures.holds (slots (set rows id row) id) now.keys now.count c.join.ensures.holds in
     record {
       rows = ap (set rows id) c.start.ensures;
       kept = kept_set rows id row now.keys now.count inside c.join.ensures.sorted (λ x. holds x ∙ ap (λ r. waits (put (slots rows) id r) x) (get_or-set_same rows id row _ inside));

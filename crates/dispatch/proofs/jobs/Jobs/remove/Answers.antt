@@ -3,7 +3,7 @@ use mir.Val.{bool_byte}
 use Rattle.std.proofs.lemmas.Bool.{both_ways}
 use Rattle.std.proofs.lemmas.Bool.Decides.{nat_tests}
 use Rattle.dispatch.specs.Keys.{among}
-use Rattle.dispatch.proofs.Keys.{among_none, filtered_none, filtered-more}
+use Rattle.dispatch.proofs.Keys.{among_none, filtered_none, filtered_more}
 use Rattle.dispatch.proofs.jobs.Jobs.remove.Goals as goal
 
 pub loop-at-init : goal.loop-at-init
@@ -13,7 +13,7 @@ pub loop-at-preserved : goal.loop-at-preserved
 loop-at-preserved c =
     let key = get_or c.loop-at.self.keys c.loop-at.at 0 in
     let test : eqb key c.args.key ≡ eqb c.args.key key = grind (arith, nat_tests) in
-    filtered-more c.args.self.now.keys c.loop-at.self.keys c.loop-at.place c.loop-at.at key (λ x. not (eqb c.args.key x)) c.loop-at.invariant refl c.args.self.now.count (c.loop-at.place + c.from-place.result) c.requires c.loop-at-test.true (ap (λ b. c.loop-at.place + b) (c.from-place.ensures ∙ ap (λ b. bool_byte (not b)) test))
+    filtered_more c.args.self.now.keys c.loop-at.self.keys c.loop-at.place c.loop-at.at key (λ x. not (eqb c.args.key x)) c.loop-at.invariant refl c.args.self.now.count (c.loop-at.place + c.from-place.result) c.requires c.loop-at-test.true (ap (λ b. c.loop-at.place + b) (c.from-place.ensures ∙ ap (λ b. bool_byte (not b)) test))
 
 pub returns : goal.returns
 returns c =

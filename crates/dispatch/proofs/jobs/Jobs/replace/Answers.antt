@@ -1,6 +1,6 @@
 use Rattle.std.proofs.Common.{refl, arith}
 use Rattle.dispatch.specs.Rows.{slots}
-use Rattle.dispatch.proofs.Waiting.{left-holds, kept_set}
+use Rattle.dispatch.proofs.Waiting.{left_holds, kept_set}
 use Rattle.dispatch.proofs.jobs.Jobs.replace.Goals as goal
 
 pub returns : goal.returns
@@ -8,5 +8,5 @@ returns c =
     let rows = c.args.rows.now in
     let old = c.args.self.now in
     let left = c.leave.new.self in
-    let holds = left-holds (slots rows) c.args.id c.requires.below old.keys old.count c.requires.kept left.keys left.count c.leave.ensures.sorted c.leave.ensures.holds c.args.row c.requires.finished in
+    let holds = left_holds (slots rows) c.args.id c.requires.below old.keys old.count c.requires.kept left.keys left.count c.leave.ensures.sorted c.leave.ensures.holds c.args.row c.requires.finished in
     record { rows = refl; kept = kept_set rows c.args.id c.args.row left.keys left.count (omega (arith, c.told-rows, c.requires.below)) c.leave.ensures.sorted holds }

@@ -1,9 +1,9 @@
 use Rattle.std.proofs.Common.{◌≡◌, ◌+◌, ◌-◌, get_or, sym, refl, ap, ◌∙◌, subst, arith}
 use mir.Val.{bool_byte}
 use Rattle.dispatch.specs.Rows.{slots}
-use Rattle.dispatch.proofs.Keys.{Filtered, filtered_none, filtered-more}
+use Rattle.dispatch.proofs.Keys.{Filtered, filtered_none, filtered_more}
 use Rattle.dispatch.proofs.Tables.{unfinished_below}
-use Rattle.dispatch.proofs.Ticks.{Ran, stays, ran_first, stays-first, lacks-here, stays_here, ran-more, rows_behind, word-behind, kept-behind}
+use Rattle.dispatch.proofs.Ticks.{Ran, stays, ran_first, stays_first, lacks_here, stays_here, ran_more, rows_behind, word_behind, kept_behind}
 use Rattle.dispatch.proofs.jobs.Jobs.run.Goals as goal
 
 pub loop-at-init : goal.loop-at-init
@@ -14,7 +14,7 @@ loop-at-init c =
     let from = c.saturating-sub-first.ensures in
     let within = unfinished_below rows c.told-rows in (
       ran_first (slots rows) old.keys old.count c.requires within c.args.given first from rows c.told-rows (λ i. refl),
-      filtered_none old.keys old.count first (stays (slots rows) c.args.given) c.requires.sorted (omega (arith, from)) (stays-first (slots rows) old.keys old.count c.requires within c.args.given first from),
+      filtered_none old.keys old.count first (stays (slots rows) c.args.given) c.requires.sorted (omega (arith, from)) (stays_first (slots rows) old.keys old.count c.requires within c.args.given first from),
     )
 
 pub work-requires : goal.work-requires
@@ -24,7 +24,7 @@ work-requires c =
     let first = c.saturating-sub-first.result in
     let key = get_or c.loop-at.self.keys c.loop-at.at 0 in
     let is = c.loop-at.invariant.1.rest c.loop-at.at (omega arith) in
-    lacks-here (slots rows) old.keys old.count c.requires (unfinished_below rows c.told-rows) c.args.given first c.saturating-sub-first.ensures c.loop-at.at key c.loop-at-test.true c.loop-at.auto.at is c.loop-at.rows c.loop-at.word c.loop-at.invariant.0
+    lacks_here (slots rows) old.keys old.count c.requires (unfinished_below rows c.told-rows) c.args.given first c.saturating-sub-first.ensures c.loop-at.at key c.loop-at-test.true c.loop-at.auto.at is c.loop-at.rows c.loop-at.word c.loop-at.invariant.0
 
 pub loop-at-preserved : goal.loop-at-preserved
 loop-at-preserved c =
@@ -40,8 +40,8 @@ loop-at-preserved c =
     let filtered = c.loop-at.invariant.1 in
     let is = filtered.rest at (omega arith) in
     let test = stays_here slot old.keys old.count c.requires within g first from at key c.loop-at-test.true c.loop-at.auto.at is c.loop-at.rows c.loop-at.word c.loop-at.invariant.0 ∙ sym c.work.ensures.more in (
-      ran-more slot old.keys old.count c.requires within g first from at key c.loop-at-test.true c.loop-at.auto.at is c.loop-at.rows c.loop-at.word c.loop-at.invariant.0 c.work.new.row c.work.ensures.row,
-      filtered-more old.keys keys c.loop-at.place at key (stays slot g) filtered refl old.count (c.loop-at.place + c.from-place.result) c.requires.sorted c.loop-at-test.true (ap (λ b. c.loop-at.place + b) (c.from-place.ensures ∙ ap bool_byte (sym test))),
+      ran_more slot old.keys old.count c.requires within g first from at key c.loop-at-test.true c.loop-at.auto.at is c.loop-at.rows c.loop-at.word c.loop-at.invariant.0 c.work.new.row c.work.ensures.row,
+      filtered_more old.keys keys c.loop-at.place at key (stays slot g) filtered refl old.count (c.loop-at.place + c.from-place.result) c.requires.sorted c.loop-at-test.true (ap (λ b. c.loop-at.place + b) (c.from-place.ensures ∙ ap bool_byte (sym test))),
     )
 
 pub returns : goal.returns
@@ -53,8 +53,8 @@ returns c =
     let ran = subst (λ m. Ran (slots rows) g m c.loop-at.rows c.loop-at.word) (omega (arith, end)) c.loop-at.invariant.0 in
     let filtered = subst (λ n. Filtered old.keys c.loop-at.self.keys c.loop-at.place n (stays (slots rows) g)) end c.loop-at.invariant.1 in
     record {
-      word = word-behind (slots rows) g c.loop-at.rows c.loop-at.word ran;
+      word = word_behind (slots rows) g c.loop-at.rows c.loop-at.word ran;
       full = ran.full;
       rows = rows_behind (slots rows) g c.loop-at.rows c.loop-at.word ran;
-      kept = kept-behind (slots rows) g c.loop-at.rows c.loop-at.word ran old.keys c.loop-at.self.keys old.count c.loop-at.place c.requires filtered;
+      kept = kept_behind (slots rows) g c.loop-at.rows c.loop-at.word ran old.keys c.loop-at.self.keys old.count c.loop-at.place c.requires filtered;
     }

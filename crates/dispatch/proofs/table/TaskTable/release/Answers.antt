@@ -1,12 +1,12 @@
-use Rattle.dispatch.proofs.Tables.{slots_set, full-set, carded-set}
+use Rattle.dispatch.proofs.Tables.{slots_set, full_set, carded_set}
 use Rattle.dispatch.proofs.table.TaskTable.release.Goals as goal
 
 pub invariant-of-self : goal.invariant-of-self
 invariant-of-self c =
     let table = c.args.self.now in
     let kept = c.release.ensures.kept in (
-      full-set table.rows c.release.new.rows c.args.id _ table.full c.requires c.release.ensures.rows,
-      (carded-set table.rows c.release.new.rows c.args.id _ table.full c.requires c.release.ensures.rows (table.times c.args.id) table.times, (kept.sorted.room, (kept.sorted.few, (kept.sorted.ordered, (kept.holds, tt))))),
+      full_set table.rows c.release.new.rows c.args.id _ table.full c.requires c.release.ensures.rows,
+      (carded_set table.rows c.release.new.rows c.args.id _ table.full c.requires c.release.ensures.rows (table.times c.args.id) table.times, (kept.sorted.room, (kept.sorted.few, (kept.sorted.ordered, (kept.holds, tt))))),
     )
 
 pub returns : goal.returns

@@ -1,5 +1,5 @@
 use Rattle.std.proofs.Common.{◌≡◌, length, take, drop}
-use Rattle.plan.specs.Marks.{all_marks, goal as givenBy}
+use Rattle.plan.specs.Marks.{all_marks, given as givenBy}
 use Rattle.plan.proofs.row.SlotRow.new.Given as goal
 
 abbrev pub invariant-loop-i : goal.invariant-loop-i

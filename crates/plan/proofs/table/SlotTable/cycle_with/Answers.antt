@@ -1,13 +1,13 @@
 use Rattle.std.proofs.Common.{◌%◌, take, sym, ap, ◌∙◌, arith}
 use native.Mathlib.Nat.{mod_self, add-mod_right}
-use Rattle.plan.proofs.Cycles.{least, first-multiple, next_multiple, at-multiple, no-multiple}
+use Rattle.plan.proofs.Cycles.{least, first_multiple, next_multiple, at_multiple, no_multiple}
 use Rattle.plan.proofs.table.SlotTable.cycle_with.Goals as goal
 
 pub loop-h-init : goal.loop-h-init
 loop-h-init c =
     let t = c.args.self.now in
     let rows = take t.count t.rows in
-    ((least rows c.args.row.now t.cycle t.repeats t.short).0, omega (arith, t.short), mod_self t.cycle, first-multiple rows c.args.row.now t.cycle t.repeats t.short)
+    ((least rows c.args.row.now t.cycle t.repeats t.short).0, omega (arith, t.short), mod_self t.cycle, first_multiple rows c.args.row.now t.cycle t.repeats t.short)
 
 pub loop-h-preserved : goal.loop-h-preserved
 loop-h-preserved c =
@@ -26,9 +26,9 @@ pub returns-then-h-period-eq0 : goal.returns-then-h-period-eq0
 returns-then-h-period-eq0 c =
     let t = c.args.self.now in
     let inv = c.loop-h.invariant in
-    at-multiple (take t.count t.rows) c.args.row.now t.cycle t.repeats t.short c.loop-h.h inv.0 c.loop-h-test.true inv.2 (ap (λ p. c.loop-h.h % p) (sym c.period.ensures.value) ∙ c.if-h-period-eq0.true) inv.3
+    at_multiple (take t.count t.rows) c.args.row.now t.cycle t.repeats t.short c.loop-h.h inv.0 c.loop-h-test.true inv.2 (ap (λ p. c.loop-h.h % p) (sym c.period.ensures.value) ∙ c.if-h-period-eq0.true) inv.3
 
 pub returns : goal.returns
 returns c =
     let t = c.args.self.now in
-    no-multiple (take t.count t.rows) c.args.row.now t.cycle t.repeats t.short c.loop-h.h c.loop-h-test.false c.loop-h.invariant.3
+    no_multiple (take t.count t.rows) c.args.row.now t.cycle t.repeats t.short c.loop-h.h c.loop-h-test.false c.loop-h.invariant.3

@@ -1,10 +1,10 @@
 use Rattle.std.proofs.Common.{arith}
-use Rattle.rack.proofs.Places.{placed-more, keeps-more}
+use Rattle.rack.proofs.Places.{placed_more, keeps_more}
 use Rattle.rack.proofs.kept.Kept.put.Goals as goal
 
 pub invariant-of-self : goal.invariant-of-self
-invariant-of-self c = (omega arith, (placed-more c.args.self.now.place c.args.s c.args.self.now.taken (omega arith) c.args.self.now.placed, tt))
+invariant-of-self c = (omega arith, (placed_more c.args.self.now.place c.args.s c.args.self.now.taken (omega arith) c.args.self.now.placed, tt))
 
 pub returns : goal.returns
 returns c = λ table keeps new.
-    keeps-more c.args.self.now.place c.args.s c.args.self.now.taken (omega arith) c.args.self.now.placed table c.args.self.now.least c.args.least c.from.result (omega arith) (omega arith) keeps new
+    keeps_more c.args.self.now.place c.args.s c.args.self.now.taken (omega arith) c.args.self.now.placed table c.args.self.now.least c.args.least c.from.result (omega arith) (omega arith) keeps new

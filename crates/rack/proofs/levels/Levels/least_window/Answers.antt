@@ -4,7 +4,7 @@ use Rattle.std.proofs.lemmas.Int.{ints, clamps}
 use Rattle.std.specs.Int.{int_max, int_min}
 use Rattle.supply.specs.Window.{window}
 use Rattle.rack.specs.Cycle.{repeated, least_window}
-use Rattle.rack.specs.CycleLemmas.{least-none, least-after, repeated_round}
+use Rattle.rack.specs.CycleLemmas.{least_none, least_after, repeated_round}
 use Rattle.rack.specs.LeastLemmas.{least_one, least_next}
 use Rattle.rack.proofs.Sums.{window_small}
 use Rattle.rack.proofs.levels.Levels.least_window.Goals as goal
@@ -40,12 +40,12 @@ loop-x-preserved c =
 
 pub loop-x-2-init : goal.loop-x-2-init
 loop-x-2-init c =
-    (refl, omega arith, least-none c.args.level c.args.self.now.cycle _ (repeated_round c.args.self.now.given c.args.self.now.cycle) c.args.s (c.args.self.now.cycle - c.args.s) (omega arith) (omega arith))
+    (refl, omega arith, least_none c.args.level c.args.self.now.cycle _ (repeated_round c.args.self.now.given c.args.self.now.cycle) c.args.s (c.args.self.now.cycle - c.args.s) (omega arith) (omega arith))
 
 pub loop-x-2-preserved : goal.loop-x-2-preserved
 loop-x-2-preserved c =
     let on =
-    least-after c.args.level c.args.self.now.cycle _ (repeated_round c.args.self.now.given c.args.self.now.cycle) _ _ c.window-within-in-loop-x-2.result c.loop-x-2.x c.args.s (c.args.self.now.cycle - c.args.s) (omega arith) (omega arith) c.loop-x-2.invariant.1 c.window-within-in-loop-x-2.ensures.value c.loop-x-2.invariant.2 in
+    least_after c.args.level c.args.self.now.cycle _ (repeated_round c.args.self.now.given c.args.self.now.cycle) _ _ c.window-within-in-loop-x-2.result c.loop-x-2.x c.args.s (c.args.self.now.cycle - c.args.s) (omega arith) (omega arith) c.loop-x-2.invariant.1 c.window-within-in-loop-x-2.ensures.value c.loop-x-2.invariant.2 in
     let is = raised c.max-most.ensures.value c.loop-x-2.invariant.0 c.window-within-in-loop-x-2.ensures.few (omega (arith, on.0, window_small c.args.level (repeated c.args.self.now.given c.args.self.now.cycle) 0 c.args.self.now.cycle (omega arith))) in
     (rw is refl, rw is on.0, rw is on.1)
 

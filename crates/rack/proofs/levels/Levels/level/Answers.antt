@@ -1,6 +1,6 @@
 use Rattle.std.proofs.Common.{◌≡◌, ◌+◌, ◌*◌, ◌/◌, ◌≤◌, min, sym, refl, ◌∙◌, arith}
 use Rattle.rack.specs.Cycle.{repeated, least_window}
-use Rattle.rack.specs.CycleLemmas.{level_0, level_value, level-small, answered, repeated_round}
+use Rattle.rack.specs.CycleLemmas.{level_0, level_value, level_small, answered, repeated_round}
 use Rattle.rack.proofs.levels.Levels.level.Goals as goal
 
 pub returns-then-level-eq0 : goal.returns-then-level-eq0
@@ -25,14 +25,14 @@ value c =
 
 small : (c : goal.After-from-least) → c.min-n.result / c.args.self.now.cycle * c.from-whole.result ≤ 65536
 small c =
-    omega (arith, level_value c.min-level.result c.args.self.now.cycle _ (repeated_round c.args.self.now.given c.args.self.now.cycle) c.min-n.result c.from-whole.result _ (omega arith) (c.from-whole.ensures ∙ c.sum.ensures) refl, level-small c.min-level.result c.args.self.now.cycle _ (repeated_round c.args.self.now.given c.args.self.now.cycle) c.min-n.result (omega arith) (omega arith))
+    omega (arith, level_value c.min-level.result c.args.self.now.cycle _ (repeated_round c.args.self.now.given c.args.self.now.cycle) c.min-n.result c.from-whole.result _ (omega arith) (c.from-whole.ensures ∙ c.sum.ensures) refl, level_small c.min-level.result c.args.self.now.cycle _ (repeated_round c.args.self.now.given c.args.self.now.cycle) c.min-n.result (omega arith) (omega arith))
 
 pub overflow-mul-result : goal.overflow-mul-result
 overflow-mul-result c = omega (arith, small c)
 
 pub overflow-add-result : goal.overflow-add-result
 overflow-add-result c =
-    omega (arith, value c, level-small c.min-level.result c.args.self.now.cycle _ (repeated_round c.args.self.now.given c.args.self.now.cycle) c.min-n.result (omega arith) (omega arith))
+    omega (arith, value c, level_small c.min-level.result c.args.self.now.cycle _ (repeated_round c.args.self.now.given c.args.self.now.cycle) c.min-n.result (omega arith) (omega arith))
 
 pub returns : goal.returns
 returns c =

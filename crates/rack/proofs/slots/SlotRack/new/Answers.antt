@@ -4,7 +4,7 @@ use Rattle.plan.specs.Contents.{contents}
 use Rattle.plan.specs.Rows.{LeastCommon, cycle_of}
 use Rattle.rack.specs.Cycle.{repeated}
 use Rattle.rack.specs.Slots.{slot_row}
-use Rattle.rack.proofs.Slotted.{given_is, table_is, table-least}
+use Rattle.rack.proofs.Slotted.{given_is, table_is, table_least}
 use Rattle.rack.proofs.slots.SlotRack.new.Goals as goal
 
 pub returns : goal.returns
@@ -20,5 +20,5 @@ returns c =
     record {
       row = λ x. ap (repeated given h) (zero-add x) ∙ given_is rows given h few cycle common counted x;
       table = table_is rows given h few cycle common counted;
-      least = table-least rows given h few cycle common counted;
+      least = table_least rows given h few cycle common counted;
     }

@@ -2,8 +2,8 @@ use Rattle.std.proofs.Common.{◌-◌, arith}
 use Rattle.supply.specs.Windows.{level_cap, within_limits}
 use Rattle.supply.proofs.joined.Joined.parting.Goals as goal
 
-pub overflow-add-result : goal.overflow-add-result
-overflow-add-result g c =
+pub overflow_add-result : goal.overflow_add-result
+overflow_add-result g c =
     let first = level_cap _ _ (g.met.P.Supply.windows c.args.self.now.first) in
     let second = level_cap _ _ (g.met.Q.Supply.windows c.args.self.now.second) in
     omega (arith, c.level.ensures, c.level-2.ensures)

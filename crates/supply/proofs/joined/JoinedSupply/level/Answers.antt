@@ -11,8 +11,8 @@ loop-i-init g c = search rules
 pub loop-i-preserved : goal.loop-i-preserved
 loop-i-preserved g c = rw (add-one, greatest_suc) (search rules)
 
-pub returns·2 : goal.returns·2
-returns·2 g c =
+pub returns-2 : goal.returns-2
+returns-2 g c =
     parted_all
     (g.P.Supply.table c.args.self.now.first)
     (g.Q.Supply.table c.args.self.now.second)

@@ -56,8 +56,8 @@ module _ (so : Contents) (old : SoFar so) where
         once = old.once;
       }
 
-  task-more : (t : Task) → (ltb t.id 32 && not (has t.id (map (λ k. k.id) so.tasks))) ≡ true → (leb 1 t.period && leb t.period 4096) ≡ true → (leb 1 t.deadline && leb t.deadline t.period) ≡ true → (leb 1 t.run && leb t.run t.deadline) ≡ true → SoFar (record { rows = so.rows; tasks = so.tasks ++ t ∷ [] })
-  task-more t free period deadline run =
+  task_more : (t : Task) → (ltb t.id 32 && not (has t.id (map (λ k. k.id) so.tasks))) ≡ true → (leb 1 t.period && leb t.period 4096) ≡ true → (leb 1 t.deadline && leb t.deadline t.period) ≡ true → (leb 1 t.run && leb t.run t.deadline) ≡ true → SoFar (record { rows = so.rows; tasks = so.tasks ++ t ∷ [] })
+  task_more t free period deadline run =
       let number = and_parts (ltb t.id 32) (not (has t.id (map (λ k. k.id) so.tasks))) free in
       let times = and_parts (leb 1 t.run) (leb t.run t.deadline) run in
       let card : timely t.run t.period t.deadline ≡ true =
@@ -70,8 +70,8 @@ module _ (so : Contents) (old : SoFar so) where
         once = ap distinct (map_push (λ k. k.id) so.tasks t) ∙ distinct_push (map (λ k. k.id) so.tasks) t.id old.once (not-true _ number.1);
       }
 
-  row-so : (n p m : Part) → Of SoFar (with_row so n p m)
-  row-so n p m =
+  row_so : (n p m : Part) → Of SoFar (with_row so n p m)
+  row_so n p m =
       followed SoFar (value_in n) _ (each_value _ (value_in n) (λ number.
       followed SoFar (value_in p) _ (each_value _ (value_in p) (λ period.
       asked SoFar (eqb number (length so.rows) && (ltb number 8 && eqb (length so.tasks) 0)) (wrong RowNumber n) _ (λ place.
@@ -80,8 +80,8 @@ module _ (so : Contents) (old : SoFar so) where
       asked SoFar (leb (cycle_of (map length (so.rows ++ given (bytes_in m) ∷ []))) 512) (wrong CycleTooLong p) _ (λ round.
       row_more n p m number period place range filled round))))))))
 
-  task-so : (n c t d : Part) → Of SoFar (with_task so n c t d)
-  task-so n c t d =
+  task_so : (n c t d : Part) → Of SoFar (with_task so n c t d)
+  task_so n c t d =
       followed SoFar (value_in n) _ (each_value _ (value_in n) (λ id.
       followed SoFar (value_in c) _ (each_value _ (value_in c) (λ run.
       followed SoFar (value_in t) _ (each_value _ (value_in t) (λ period.
@@ -91,11 +91,11 @@ module _ (so : Contents) (old : SoFar so) where
       asked SoFar (leb 1 period && leb period 4096) (wrong TaskTimes t) _ (λ within.
       asked SoFar (leb 1 deadline && leb deadline period) (wrong TaskTimes d) _ (λ soon.
       asked SoFar (leb 1 run && leb run deadline) (wrong TaskTimes c) _ (λ short.
-      task-more (record { id = id; run = run; period = period; deadline = deadline }) free within soon short)))))))))))))
+      task_more (record { id = id; run = run; period = period; deadline = deadline }) free within soon short)))))))))))))
 
-  line-so : (k : Content) → Of SoFar (with_content so k)
-  line-so (row n p m) = row-so n p m
-  line-so (task n c t d) = task-so n c t d
+  line_so : (k : Content) → Of SoFar (with_content so k)
+  line_so (row n p m) = row_so n p m
+  line_so (task n c t d) = task_so n c t d
 
 -- ---- all lines
 
@@ -109,7 +109,7 @@ lines_so line so (rest ∷ []) old = asked SoFar (eqb (length rest) 0) (at LineN
 lines_so line so (one ∷ next ∷ others) old =
     asked SoFar (leb (length one) 96) (at LineNotEnded line 0) _ (λ short.
     followed SoFar (content line (parts 44 one)) _ (each_value _ (content line (parts 44 one)) (λ k.
-    on (with_content so k) _ (line-so so old k) (λ more kept.
+    on (with_content so k) _ (line_so so old k) (λ more kept.
     lines_so (line + 1) more (next ∷ others) kept))))
 
 whole : (text : List ℕ) → Of Lawful (reading text)
