@@ -10,7 +10,7 @@ pub loop-i-init : goal.loop-i-init
 loop-i-init g c = carried_none _ _ c.args.calls.now c.args.answers.now refl
 
 pub loop-i-preserved : goal.loop-i-preserved
-loop-i-preserved g c = carried_more _ _ _ c.args.calls.now c.args.answers.now c.loop-i.answers c.loop-i.i _ c.carry-out.result c.loop-i.invariant (omega arith) (omega arith) c.carry-out.ensures.answer c.carry-out.ensures.after
+loop-i-preserved g c = carried_more _ _ _ c.args.calls.now c.args.answers.now c.loop-i.answers c.loop-i.i _ c.carry_out.result c.loop-i.invariant (omega arith) (omega arith) c.carry_out.ensures.answer c.carry_out.ensures.after
 
 pub returns : goal.returns
 returns g c =
@@ -24,5 +24,5 @@ returns g c =
       count = c.min-count.ensures;
       answered = answered;
       rest = whole.behind;
-      law = subst (ShiftLaw row table) (sym answered) (shift_law row table (g.met.S.Supply.windows c.args.supply) calls);
+      law = subst (ShiftLaw row table) (sym answered) (shift_law row table (g.met.S.Supply.bounded c.args.supply) (g.met.S.Supply.windows c.args.supply) calls);
     }

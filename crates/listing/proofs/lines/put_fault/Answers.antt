@@ -2,13 +2,13 @@ use Rattle.std.proofs.Common.{◌∙◌, zero-add, arith}
 use Rattle.listing.proofs.Lengths.{fault_short}
 use Rattle.listing.proofs.lines.put_fault.Goals as goal
 
-pub put-pieces-requires : goal.put-pieces-requires
-put-pieces-requires c =
+pub put_pieces-requires : goal.put_pieces-requires
+put_pieces-requires c =
     omega (arith, c.requires, fault_short c.args.cause c.args.line c.args.field (omega arith) (omega arith) (omega arith))
 
 pub returns : goal.returns
 returns c = record {
-  value = c.put-pieces.ensures.value ∙ zero-add _;
-  few = omega (arith, c.put-pieces.ensures.value, fault_short c.args.cause c.args.line c.args.field (omega arith) (omega arith) (omega arith));
-  after = c.put-pieces.ensures.after;
+  value = c.put_pieces.ensures.value ∙ zero-add _;
+  few = omega (arith, c.put_pieces.ensures.value, fault_short c.args.cause c.args.line c.args.field (omega arith) (omega arith) (omega arith));
+  after = c.put_pieces.ensures.after;
 }

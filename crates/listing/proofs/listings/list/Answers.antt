@@ -15,10 +15,10 @@ returns-in-Ok c =
     let room : leb 512 (length c.args.out.now) ≡ true = grind (arith, nat_tests) in
     let is = c.in-Ok.ensures.outcome in
     record {
-      length = rw room (ap Ok (c.list-plan.ensures.value ∙ ap (λ r. length (listed r)) is));
-      few = c.list-plan.ensures.few;
+      length = rw room (ap Ok (c.list_plan.ensures.value ∙ ap (λ r. length (listed r)) is));
+      few = c.list_plan.ensures.few;
       verdicts = verdicts c.args.text.now;
-      bytes = rw room (c.list-plan.ensures.bytes ∙ ap (λ r. laid 0 (listed r) c.args.out.now) is);
+      bytes = rw room (c.list_plan.ensures.bytes ∙ ap (λ r. laid 0 (listed r) c.args.out.now) is);
     }
 
 pub returns-in-Err : goal.returns-in-Err
@@ -27,8 +27,8 @@ returns-in-Err c =
     let f = c.in-Err.fault in
     let is = c.in-Err.ensures.outcome in
     record {
-      length = rw room (ap Ok (c.put-fault.ensures.value ∙ (ap (λ n. length (fault_line n f.line f.field)) c.number.ensures ∙ ap (λ r. length (listed r)) is)));
-      few = omega (arith, c.put-fault.ensures.few);
+      length = rw room (ap Ok (c.put_fault.ensures.value ∙ (ap (λ n. length (fault_line n f.line f.field)) c.number.ensures ∙ ap (λ r. length (listed r)) is)));
+      few = omega (arith, c.put_fault.ensures.few);
       verdicts = verdicts c.args.text.now;
-      bytes = rw room (c.put-fault.ensures.after ∙ (ap (λ n. laid 0 (fault_line n f.line f.field) c.args.out.now) c.number.ensures ∙ ap (λ r. laid 0 (listed r) c.args.out.now) is));
+      bytes = rw room (c.put_fault.ensures.after ∙ (ap (λ n. laid 0 (fault_line n f.line f.field) c.args.out.now) c.number.ensures ∙ ap (λ r. laid 0 (listed r) c.args.out.now) is));
     }

@@ -5,5 +5,5 @@ use Rattle.listing.proofs.writer.put.Goals as goal
 pub returns : goal.returns
 returns c = record {
   value = search rules;
-  after = laid_over c.args.at _ c.args.bytes.now c.copy-from-slice.new.self c.args.out.now c.copy-from-slice.ensures.after (omega arith);
+  after = laid_over c.args.at _ c.args.bytes.now c.copy_from_slice.new.self c.args.out.now c.copy_from_slice.ensures.after (omega arith);
 }

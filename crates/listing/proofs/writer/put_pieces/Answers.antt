@@ -12,15 +12,15 @@ module _ (from : ℕ) (pieces : List Piece) (before : List ℕ) (end i : ℕ) (o
   fits : end + length (bytes_of (get_or pieces i d)) ≤ length out
   fits = omega (arith, next.ends, next.long, length-append (bytes_of (get_or pieces i d)) (spelled (drop (i + 1) pieces)))
 
-pub put-piece-end-requires : goal.put-piece-end-requires
-put-piece-end-requires c = fits c.args.at c.args.pieces.now c.args.out.now c.loop-piece.end c.loop-piece.piece-index c.loop-piece.out c.requires c.loop-piece-test.true c.loop-piece.invariant _
+pub put_piece-end-requires : goal.put_piece-end-requires
+put_piece-end-requires c = fits c.args.at c.args.pieces.now c.args.out.now c.loop-piece.end c.loop-piece.piece-index c.loop-piece.out c.requires c.loop-piece-test.true c.loop-piece.invariant _
 
 pub loop-piece-preserved : goal.loop-piece-preserved
 loop-piece-preserved c =
     written_more c.args.at (spelled c.args.pieces.now) c.args.out.now c.loop-piece.end _ _ c.loop-piece.out _ _
     (fits c.args.at c.args.pieces.now c.args.out.now c.loop-piece.end c.loop-piece.piece-index c.loop-piece.out c.requires c.loop-piece-test.true c.loop-piece.invariant _)
     (next c.args.at c.args.pieces.now c.args.out.now c.loop-piece.end c.loop-piece.piece-index c.loop-piece.out c.requires c.loop-piece-test.true c.loop-piece.invariant _)
-    c.put-piece-end.ensures.value c.put-piece-end.ensures.after
+    c.put_piece-end.ensures.value c.put_piece-end.ensures.after
 
 pub returns : goal.returns
 returns c =

@@ -8,8 +8,8 @@ use Rattle.rack.proofs.counts.counts.Goals as goal
 pub loop-n-init : goal.loop-n-init
 loop-n-init c = (refl, λ x _. sofar_none (contents c.args.plan.now).rows x)
 
-pub add-row-requires : goal.add-row-requires
-add-row-requires c = (
+pub add_row-requires : goal.add_row-requires
+add_row-requires c = (
   c.cycle.ensures.few,
   (
     divided c.cycle.result (contents c.args.plan.now).rows c.loop-n.n (marks_of c.in-Some.row) c.in-Some.ensures c.cycle.ensures.least.1,
@@ -19,14 +19,14 @@ add-row-requires c = (
 
 pub loop-n-preserved : goal.loop-n-preserved
 loop-n-preserved c = (
-  c.add-row.array_long,
+  c.add_row.array_long,
   λ x h.
-      sofar_more (contents c.args.plan.now).rows c.loop-n.n (marks_of c.in-Some.row) c.loop-n.counts c.add-row.new.counts x c.in-Some.ensures (c.loop-n.invariant.1 x h) (c.add-row.ensures x (omega (arith, c.cycle.ensures.value))),
+      sofar_more (contents c.args.plan.now).rows c.loop-n.n (marks_of c.in-Some.row) c.loop-n.counts c.add_row.new.counts x c.in-Some.ensures (c.loop-n.invariant.1 x h) (c.add_row.ensures x (omega (arith, c.cycle.ensures.value))),
 )
 
-pub returns-in-default : goal.returns-in-default
-returns-in-default c = λ x h.
-    sofar_all (contents c.args.plan.now).rows c.loop-n.n c.loop-n.counts x (nth_none (contents c.args.plan.now).rows c.loop-n.n c.in-default.ensures) (c.loop-n.invariant.1 x h)
+pub returns-in_default : goal.returns-in_default
+returns-in_default c = λ x h.
+    sofar_all (contents c.args.plan.now).rows c.loop-n.n c.loop-n.counts x (nth_none (contents c.args.plan.now).rows c.loop-n.n c.in_default.ensures) (c.loop-n.invariant.1 x h)
 
 pub returns : goal.returns
-returns c = λ x h. sofar_all (contents c.args.plan.now).rows c.loop-n.n c.loop-n.counts x (omega (arith, c.row-count-n-end.ensures.value)) (c.loop-n.invariant.1 x h)
+returns c = λ x h. sofar_all (contents c.args.plan.now).rows c.loop-n.n c.loop-n.counts x (omega (arith, c.row_count-n-end.ensures.value)) (c.loop-n.invariant.1 x h)

@@ -19,11 +19,11 @@ returns-then-id-ge-TASKS g c =
     let e = admit_large s c.args.id c.args.run c.args.period c.args.deadline c.if-id-ge-TASKS.true in
     record { answer = e.0; after = e.1; same = λ _. refl }
 
-pub returns-in-default : goal.returns-in-default
-returns-in-default g c =
+pub returns-in_default : goal.returns-in_default
+returns-in_default g c =
     let s = state_of g.S.Supply.row g.S.Supply.table c.args.self.now in
     let below = lt-ltb _ _ c.if-id-ge-TASKS.false in
-    let bad = ap (λ b. b && timely c.args.run c.args.period c.args.deadline) (sym below) ∙ none_by (ltb c.args.id 32 && timely c.args.run c.args.period c.args.deadline) _ c.in-default.ensures in
+    let bad = ap (λ b. b && timely c.args.run c.args.period c.args.deadline) (sym below) ∙ none_by (ltb c.args.id 32 && timely c.args.run c.args.period c.args.deadline) _ c.in_default.ensures in
     let e = admit_bad s c.args.id c.args.run c.args.period c.args.deadline c.if-id-ge-TASKS.false bad in
     record { answer = e.0; after = e.1; same = λ _. refl }
 
@@ -37,8 +37,8 @@ returns-then-holds g c =
     let e = admit_taken s c.args.id c.args.run c.args.period c.args.deadline c.if-id-ge-TASKS.false good (held ∙ c.if-holds.true) in
     record { answer = e.0; after = e.1; same = λ _. refl }
 
-pub returns-in-Some-first-unserved : goal.returns-in-Some-first-unserved
-returns-in-Some-first-unserved g c =
+pub returns-in-Some-first_unserved : goal.returns-in-Some-first_unserved
+returns-in-Some-first_unserved g c =
     let s = state_of g.S.Supply.row g.S.Supply.table c.args.self.now in
     let below = lt-ltb _ _ c.if-id-ge-TASKS.false in
     let made = some_by (ltb c.args.id 32 && timely c.args.run c.args.period c.args.deadline) _ _ c.in-Some.ensures in
@@ -46,9 +46,9 @@ returns-in-Some-first-unserved g c =
     let held = sym c.holds.ensures in
     let new = c.with-tasks.ensures ∙ ap (λ t. put s.slot t.id (row_of t)) made.1 in
     let table = g.S.Supply.table c.args.self.now.supply in
-    let found = some_by _ _ _ c.in-Some-first-unserved.ensures in
+    let found = some_by _ _ _ c.in-Some-first_unserved.ensures in
     let first = ap (first_unserved table) (sym new) ∙ sym found.1 in
-    let e = admit_fails s c.args.id c.args.run c.args.period c.args.deadline c.if-id-ge-TASKS.false good (held ∙ c.if-holds.false) c.in-Some-first-unserved.k (omega (arith, ltb-true _ 32 found.0, found.1)) first in
+    let e = admit_fails s c.args.id c.args.run c.args.period c.args.deadline c.if-id-ge-TASKS.false good (held ∙ c.if-holds.false) c.in-Some-first_unserved.k (omega (arith, ltb-true _ 32 found.0, found.1)) first in
     record { answer = e.0; after = e.1; same = λ _. refl }
 
 pub returns : goal.returns
@@ -60,8 +60,8 @@ returns g c =
     let held = sym c.holds.ensures in
     let new = c.with-tasks.ensures ∙ ap (λ t. put s.slot t.id (row_of t)) made.1 in
     let table = g.S.Supply.table c.args.self.now.supply in
-    let none = none_by _ _ c.in-default-first-unserved.ensures in
+    let none = none_by _ _ c.in_default-first_unserved.ensures in
     let e = admit_passes s c.args.id c.args.run c.args.period c.args.deadline c.if-id-ge-TASKS.false good (held ∙ c.if-holds.false) (ap (first_unserved table) (sym new) ∙ none_unserved table (slots c.with-tasks.result.table.rows) none) in
     let here = ap (λ f. (f c.args.id).held) new ∙ ap (λ r. r.held) (put_same (slots c.args.self.now.tasks.table.rows) c.args.id (admitted c.args.run c.args.period c.args.deadline) c.args.id refl) in
-    let is = c.unwrap-or-level.ensures ∙ level_value _ _ _ here c.witness.ensures ∙ ap (λ f. witness table f c.args.id) new in
+    let is = c.unwrap_or-level.ensures ∙ level_value _ _ _ here c.witness.ensures ∙ ap (λ f. witness table f c.args.id) new in
     record { answer = ap LevelIs is ∙ e.0; after = ap (with_rows s) new ∙ e.1; same = λ h. absurd (true≢false h) }

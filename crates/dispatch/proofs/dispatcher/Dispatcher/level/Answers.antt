@@ -21,5 +21,5 @@ returns g c =
     let s = state_of g.S.Supply.row g.S.Supply.table c.args.self.now in
     let held = sym c.holds.ensures in
     let e = level_passes s c.args.id c.if-id-ge-TASKS.false (held ∙ c.if-not-holds.false) in
-    let is = c.unwrap-or.ensures ∙ level_value _ _ _ (held ∙ c.if-not-holds.false) c.witness.ensures in
+    let is = c.unwrap_or.ensures ∙ level_value _ _ _ (held ∙ c.if-not-holds.false) c.witness.ensures in
     record { answer = ap LevelIs is ∙ e.0 }

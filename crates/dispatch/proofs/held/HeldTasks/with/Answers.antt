@@ -6,13 +6,13 @@ use Rattle.dispatch.specs.Rows.{slots, row_of}
 use Rattle.dispatch.proofs.Loads.{load_few, placed, passed_by, other_adds, none_adds, with_own}
 use Rattle.dispatch.proofs.Tables.{some_by, none_by}
 use Rattle.dispatch.proofs.held.HeldTasks.with.Goals as goal
-use Rattle.dispatch.proofs.held.HeldTasks.with.Goals.{in-Some, in-default}
+use Rattle.dispatch.proofs.held.HeldTasks.with.Goals.{in-Some, in_default}
 
 pub loop-k-init : goal.loop-k-init
 loop-k-init c = (c.args.self.now.full, λ i h. absurd (omega arith), λ i _. refl, sym (sum_none _), omega arith)
 
-pub overflow-add-loads : goal.overflow-add-loads
-overflow-add-loads c =
+pub overflow_add-loads : goal.overflow_add-loads
+overflow_add-loads c =
     let old = c.args.self.now in
     let slot = slots old.table.rows in
     let k = c.loop-k.k in
@@ -40,8 +40,8 @@ loop-k-preserved c =
             rw sum_more (omega (arith, inv.3, own)),
             omega (arith, inv.4, w.charge-own.ensures.few),
           )
-      | in-default w ↦
-          let free = none_by (slot k).held _ w.in-default.ensures in
+      | in_default w ↦
+          let free = none_by (slot k).held _ w.in_default.ensures in
           rw (w.loads-is, w.own-is) (
             inv.0,
             passed_by slot c.loop-k.loads k inv.0 c.loop-k-test.true want inv.1 free,
@@ -51,15 +51,16 @@ loop-k-preserved c =
           )
     ]
 
-pub invariant-of-result : goal.invariant-of-result
-invariant-of-result c =
+pub invariant_of-result : goal.invariant_of-result
+invariant_of-result c =
     let old = c.args.self.now in
     let slot = slots old.table.rows in
     let new = task_of c.args.card.now in
     let inv = c.loop-k.invariant in
     let all : c.loop-k.k ≡ 32 = omega arith in
     let whole = simp all at inv.3 in
-    let loaded = with_own slot new.id c.loop-k.own_val (row_of new) c.loop-k.loads inv.0 c.args.card.now.numbered c.requires refl whole (λ i less held. inv.1 i (omega arith) held) in (
-      simp length-set inv.0,
-      (λ k less held. rw c.id.ensures (loaded k less (ap (λ f. (f k).held) (sym c.with.ensures) ∙ held) ∙ ap (λ f. load f k) (sym c.with.ensures)), tt),
-    )
+    let loaded = with_own slot new.id c.loop-k.own (row_of new) c.loop-k.loads inv.0 c.args.card.now.numbered c.requires refl whole (λ i less held. inv.1 i (omega arith) held) in
+    record {
+      full = simp length-set inv.0;
+      loaded = λ k less held. rw c.id.ensures (loaded k less (ap (λ f. (f k).held) (sym c.with.ensures) ∙ held) ∙ ap (λ f. load f k) (sym c.with.ensures));
+    }

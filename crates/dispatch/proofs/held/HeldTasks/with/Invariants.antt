@@ -11,5 +11,5 @@ invariant-loop-k l =
     (length l.loads ≡ 32)
     × ((i : ℕ) → i < l.k → (slots l.self.table.rows i).held ≡ true → get_or l.loads i 0 ≡ load (slots l.self.table.rows) i + charge (slots l.self.table.rows i).deadline (row_of (task_of l.card)))
     × ((i : ℕ) → l.k ≤ i → get_or l.loads i 0 ≡ get_or l.self.loads i 0)
-    × (l.own_val ≡ sum l.k (others (slots l.self.table.rows) (task_of l.card).id (charge (task_of l.card).deadline)))
-    × (l.own_val ≤ 8192 * l.k)
+    × (l.own ≡ sum l.k (others (slots l.self.table.rows) (task_of l.card).id (charge (task_of l.card).deadline)))
+    × (l.own ≤ 8192 * l.k)

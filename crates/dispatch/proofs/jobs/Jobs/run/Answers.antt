@@ -10,8 +10,8 @@ pub loop-at-init : goal.loop-at-init
 loop-at-init c =
     let rows = c.args.rows.now in
     let old = c.args.self.now in
-    let first = c.saturating-sub-first.result in
-    let from = c.saturating-sub-first.ensures in
+    let first = c.saturating_sub-first.result in
+    let from = c.saturating_sub-first.ensures in
     let within = unfinished_below rows c.told-rows in (
       ran_first (slots rows) old.keys old.count c.requires within c.args.given first from rows c.told-rows (λ i. refl),
       filtered_none old.keys old.count first (stays (slots rows) c.args.given) c.requires.sorted (omega (arith, from)) (stays_first (slots rows) old.keys old.count c.requires within c.args.given first from),
@@ -21,10 +21,10 @@ pub work-requires : goal.work-requires
 work-requires c =
     let rows = c.args.rows.now in
     let old = c.args.self.now in
-    let first = c.saturating-sub-first.result in
+    let first = c.saturating_sub-first.result in
     let key = get_or c.loop-at.self.keys c.loop-at.at 0 in
     let is = c.loop-at.invariant.1.rest c.loop-at.at (omega arith) in
-    lacks_here (slots rows) old.keys old.count c.requires (unfinished_below rows c.told-rows) c.args.given first c.saturating-sub-first.ensures c.loop-at.at key c.loop-at-test.true c.loop-at.auto.at is c.loop-at.rows c.loop-at.word c.loop-at.invariant.0
+    lacks_here (slots rows) old.keys old.count c.requires (unfinished_below rows c.told-rows) c.args.given first c.saturating_sub-first.ensures c.loop-at.at key c.loop-at-test.true c.loop-at.auto.at is c.loop-at.rows c.loop-at.word c.loop-at.invariant.0
 
 pub loop-at-preserved : goal.loop-at-preserved
 loop-at-preserved c =
@@ -33,8 +33,8 @@ loop-at-preserved c =
     let keys = c.loop-at.self.keys in
     let at = c.loop-at.at in
     let g = c.args.given in
-    let first = c.saturating-sub-first.result in
-    let from = c.saturating-sub-first.ensures in
+    let first = c.saturating_sub-first.result in
+    let from = c.saturating_sub-first.ensures in
     let within = unfinished_below c.args.rows.now c.told-rows in
     let key = get_or keys at 0 in
     let filtered = c.loop-at.invariant.1 in
@@ -49,7 +49,7 @@ returns c =
     let rows = c.args.rows.now in
     let old = c.args.self.now in
     let g = c.args.given in
-    let end : c.loop-at.at ≡ old.count = omega (arith, c.loop-at.auto, c.loop-at-test.false, c.saturating-sub-first.ensures) in
+    let end : c.loop-at.at ≡ old.count = omega (arith, c.loop-at.auto, c.loop-at-test.false, c.saturating_sub-first.ensures) in
     let ran = subst (λ m. Ran (slots rows) g m c.loop-at.rows c.loop-at.word) (omega (arith, end)) c.loop-at.invariant.0 in
     let filtered = subst (λ n. Filtered old.keys c.loop-at.self.keys c.loop-at.place n (stays (slots rows) g)) end c.loop-at.invariant.1 in
     record {

@@ -6,10 +6,10 @@ use Rattle.dispatch.proofs.Tables.{slots_blank}
 use Rattle.dispatch.proofs.Waiting.{waits_none}
 use Rattle.dispatch.proofs.table.TaskTable.new.Goals as goal
 
-pub invariant-of-result : goal.invariant-of-result
-invariant-of-result c =
+pub invariant_of-result : goal.invariant_of-result
+invariant_of-result c =
     let none = c.none.ensures in
-    (refl, (λ i. ap carded (slots_blank i), (none.sorted.room, (none.sorted.few, (none.sorted.ordered, (λ x. none.holds x ∙ sym (waits_none _ (λ i. ap unfinished (slots_blank i)) x), tt))))))
+    record { full = refl; times = (λ i. ap carded (slots_blank i)); room = none.sorted.room; few = none.sorted.few; ordered = none.sorted.ordered; kept = (λ x. none.holds x ∙ sym (waits_none _ (λ i. ap unfinished (slots_blank i)) x)) }
 
 pub returns : goal.returns
 returns c = fun_ext slots_blank

@@ -6,4 +6,4 @@ use Rattle.dispatch.proofs.table.TaskTable.quiet.Goals as goal
 pub returns : goal.returns
 returns c =
     let table = c.args.self.now in
-    c.is-empty.ensures ∙ count_quiet (slots table.rows) table.jobs.keys table.jobs.count (search rules)
+    c.is_empty.ensures ∙ count_quiet (slots table.rows) table.jobs.keys table.jobs.count (search rules)

@@ -2,8 +2,8 @@ use Rattle.std.proofs.Common.{arith}
 use Rattle.rack.proofs.Places.{placed_more, keeps_more}
 use Rattle.rack.proofs.kept.Kept.put.Goals as goal
 
-pub invariant-of-self : goal.invariant-of-self
-invariant-of-self c = (omega arith, (placed_more c.args.self.now.place c.args.s c.args.self.now.taken (omega arith) c.args.self.now.placed, tt))
+pub invariant_of-self : goal.invariant_of-self
+invariant_of-self c = record { few = omega arith; placed = placed_more c.args.self.now.place c.args.s c.args.self.now.taken (omega arith) c.args.self.now.placed }
 
 pub returns : goal.returns
 returns c = λ table keeps new.

@@ -25,8 +25,8 @@ raised e ea few most = omega (arith, ints, clamps)
 lowered : {z a m : ℤ} {l w whole : ℕ} → z ≡ int_min a (to_z w16 (of_z w16 (to_z w16 w -ℤ m))) → a ≡ pos l → m ≡ pos (up m) → w ≡ whole → up m ≤ whole → w ≤ 4096 → to_z w16 (of_z w16 z) ≡ pos (min l (whole - up m))
 lowered e ea em ew le few = omega (arith, ints, clamps)
 
-pub overflow-cast-least : goal.overflow-cast-least
-overflow-cast-least c = omega (arith, ints, small c)
+pub overflow_cast-least : goal.overflow_cast-least
+overflow_cast-least c = omega (arith, ints, small c)
 
 pub loop-x-init : goal.loop-x-init
 loop-x-init c =
@@ -35,8 +35,8 @@ loop-x-init c =
 pub loop-x-preserved : goal.loop-x-preserved
 loop-x-preserved c =
     let row : ℕ → ℕ = repeated c.args.self.now.given c.args.self.now.cycle in
-    let next = least_next (λ x. window c.args.level row x c.args.s) c.loop-x.x _ c.window-within.result (omega arith) refl c.window-within.ensures.value in
-    omega (arith, ints, clamps, c.min-least.ensures.value, c.loop-x.invariant, c.window-within.ensures.few, next)
+    let next = least_next (λ x. window c.args.level row x c.args.s) c.loop-x.x _ c.window_within.result (omega arith) refl c.window_within.ensures.value in
+    omega (arith, ints, clamps, c.min-least.ensures.value, c.loop-x.invariant, c.window_within.ensures.few, next)
 
 pub loop-x-2-init : goal.loop-x-2-init
 loop-x-2-init c =
@@ -45,15 +45,15 @@ loop-x-2-init c =
 pub loop-x-2-preserved : goal.loop-x-2-preserved
 loop-x-2-preserved c =
     let on =
-    least_after c.args.level c.args.self.now.cycle _ (repeated_round c.args.self.now.given c.args.self.now.cycle) _ _ c.window-within-in-loop-x-2.result c.loop-x-2.x c.args.s (c.args.self.now.cycle - c.args.s) (omega arith) (omega arith) c.loop-x-2.invariant.1 c.window-within-in-loop-x-2.ensures.value c.loop-x-2.invariant.2 in
-    let is = raised c.max-most.ensures.value c.loop-x-2.invariant.0 c.window-within-in-loop-x-2.ensures.few (omega (arith, on.0, window_small c.args.level (repeated c.args.self.now.given c.args.self.now.cycle) 0 c.args.self.now.cycle (omega arith))) in
+    least_after c.args.level c.args.self.now.cycle _ (repeated_round c.args.self.now.given c.args.self.now.cycle) _ _ c.window_within-in-loop-x-2.result c.loop-x-2.x c.args.s (c.args.self.now.cycle - c.args.s) (omega arith) (omega arith) c.loop-x-2.invariant.1 c.window_within-in-loop-x-2.ensures.value c.loop-x-2.invariant.2 in
+    let is = raised c.max-most.ensures.value c.loop-x-2.invariant.0 c.window_within-in-loop-x-2.ensures.few (omega (arith, on.0, window_small c.args.level (repeated c.args.self.now.given c.args.self.now.cycle) 0 c.args.self.now.cycle (omega arith))) in
     (rw is refl, rw is on.0, rw is on.1)
 
-pub overflow-cast-whole : goal.overflow-cast-whole
-overflow-cast-whole c = omega (arith, ints, whole_small c)
+pub overflow_cast-whole : goal.overflow_cast-whole
+overflow_cast-whole c = omega (arith, ints, whole_small c)
 
-pub overflow-sub-whole : goal.overflow-sub-whole
-overflow-sub-whole c = omega (arith, ints, whole_small c, c.sum-whole.ensures, c.loop-x-2.invariant.0, c.loop-x-2.invariant.1)
+pub overflow_sub-whole : goal.overflow_sub-whole
+overflow_sub-whole c = omega (arith, ints, whole_small c, c.sum-whole.ensures, c.loop-x-2.invariant.0, c.loop-x-2.invariant.1)
 
 -- the least of all starts: of those within the cycle, and of the others
 found : (c : goal.After-min) → to_z w16 (of_z w16 c.min.result) ≡ pos (least_window c.args.level (repeated c.args.self.now.given c.args.self.now.cycle) c.args.self.now.cycle c.args.s)
@@ -66,8 +66,8 @@ found c =
     lowered c.min.ensures.value inside c.loop-x-2.invariant.0 c.sum-whole.ensures c.loop-x-2.invariant.1 few
     ∙ ap pos (c.loop-x-2.invariant.2 ∙ ap (λ n. least_window c.args.level row n c.args.s) all)
 
-pub overflow-cast-result : goal.overflow-cast-result
-overflow-cast-result c = omega (arith, ints, found c)
+pub overflow_cast-result : goal.overflow_cast-result
+overflow_cast-result c = omega (arith, ints, found c)
 
 pub returns : goal.returns
 returns c = omega (arith, ints, found c)

@@ -27,11 +27,11 @@ small : (c : goal.After-from-least) → c.min-n.result / c.args.self.now.cycle *
 small c =
     omega (arith, level_value c.min-level.result c.args.self.now.cycle _ (repeated_round c.args.self.now.given c.args.self.now.cycle) c.min-n.result c.from-whole.result _ (omega arith) (c.from-whole.ensures ∙ c.sum.ensures) refl, level_small c.min-level.result c.args.self.now.cycle _ (repeated_round c.args.self.now.given c.args.self.now.cycle) c.min-n.result (omega arith) (omega arith))
 
-pub overflow-mul-result : goal.overflow-mul-result
-overflow-mul-result c = omega (arith, small c)
+pub overflow_mul-result : goal.overflow_mul-result
+overflow_mul-result c = omega (arith, small c)
 
-pub overflow-add-result : goal.overflow-add-result
-overflow-add-result c =
+pub overflow_add-result : goal.overflow_add-result
+overflow_add-result c =
     omega (arith, value c, level_small c.min-level.result c.args.self.now.cycle _ (repeated_round c.args.self.now.given c.args.self.now.cycle) c.min-n.result (omega arith) (omega arith))
 
 pub returns : goal.returns

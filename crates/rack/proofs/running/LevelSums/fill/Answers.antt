@@ -3,8 +3,8 @@ use Rattle.rack.specs.Cycle.{repeated}
 use Rattle.rack.proofs.Sums.{window_small, summed_none, summed_more}
 use Rattle.rack.proofs.running.LevelSums.fill.Goals as goal
 
-pub overflow-add-self : goal.overflow-add-self
-overflow-add-self c = omega (
+pub overflow_add-self : goal.overflow_add-self
+overflow_add-self c = omega (
   arith,
   c.loop-k.invariant.0 c.loop-k.k (omega arith),
   window_small c.args.level (repeated c.args.given.now c.args.cycle) 0 c.loop-k.k (omega arith),
