@@ -15,25 +15,25 @@ returns-then-n-lt10 t c = record {
       ∙ ap (λ l. laid c.args.at l c.args.out.now) (sym (decimal_digit c.args.n c.if-n-lt10.true));
 }
 
-pub put-number-last-requires : goal.put-number-last-requires
-put-number-last-requires t c = (omega arith, omega (arith, digits_long c.args.n c.if-n-lt10.false (omega arith)))
+pub put_number-last-requires : goal.put_number-last-requires
+put_number-last-requires t c = (omega arith, omega (arith, digits_long c.args.n c.if-n-lt10.false (omega arith)))
 
 pub bounds-out-last : goal.bounds-out-last
 bounds-out-last t c =
     let few = digits_long c.args.n c.if-n-lt10.false (omega arith) in
-    omega (arith, c.put-number-last.ensures.value, ap length c.put-number-last.ensures.after, length_laid c.args.at (decimal (c.args.n / 10)) c.args.out.now (omega arith))
+    omega (arith, c.put_number-last.ensures.value, ap length c.put_number-last.ensures.after, length_laid c.args.at (decimal (c.args.n / 10)) c.args.out.now (omega arith))
 
-pub overflow-add-result-2 : goal.overflow-add-result-2
-overflow-add-result-2 t c =
+pub overflow_add-result-2 : goal.overflow_add-result-2
+overflow_add-result-2 t c =
     let few = digits_long c.args.n c.if-n-lt10.false (omega arith) in
-    record { fits = omega (arith, c.put-number-last.ensures.value) }
+    record { fits = omega (arith, c.put_number-last.ensures.value) }
 
 pub returns : goal.returns
 returns t c =
     let few = digits_long c.args.n c.if-n-lt10.false (omega arith) in
     record {
-      value = omega (arith, c.put-number-last.ensures.value);
+      value = omega (arith, c.put_number-last.ensures.value);
       after =
-          ap (λ i. set c.put-number-last.new.out i (48 + c.args.n % 10)) c.put-number-last.ensures.value
-          ∙ last_digit c.args.at c.args.n c.put-number-last.new.out c.args.out.now c.if-n-lt10.false (omega arith) (omega arith) c.put-number-last.ensures.after;
+          ap (λ i. set c.put_number-last.new.out i (48 + c.args.n % 10)) c.put_number-last.ensures.value
+          ∙ last_digit c.args.at c.args.n c.put_number-last.new.out c.args.out.now c.if-n-lt10.false (omega arith) (omega arith) c.put_number-last.ensures.after;
     }
