@@ -1,5 +1,7 @@
 // How fast the planner and the dispatcher are, measured on the machine that runs it. The figures go to standard error, one
 // line for each measurement, with a sum over the answers.
+#![tactic(auto)]
+
 use dispatch::Dispatcher;
 use listing::list;
 use plan::Plan;

@@ -1,4 +1,6 @@
 // The dispatcher: tasks are admitted, released and run over a supply.
+#![tactic(auto)]
+
 mod charges;
 mod dispatcher;
 mod held;

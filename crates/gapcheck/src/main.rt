@@ -1,4 +1,6 @@
 // Reads a plan text from standard input and writes its listing to standard output. A plan at fault is no failure of the program.
+#![tactic(auto)]
+
 use anyhow::anyhow;
 use input::{Front, fill_front};
 use listing::{ListingRefusal, list};

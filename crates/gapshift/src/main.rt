@@ -1,6 +1,8 @@
 // Carries out a list of calls over a plan's slot rack, and writes the answers.
 //
 // gapshift PLAN reads a plan from the file PLAN and calls from standard input, one a line, and writes one answer a line.
+#![tactic(auto)]
+
 ghost use Rattle.std.specs.Prelude.{◌<◌, length};
 
 mod calls;

@@ -1,4 +1,6 @@
 // What the programs read.
+#![tactic(auto)]
+
 ghost use Rattle.std.specs.Prelude.{◌≤◌, IfOk};
 
 mod front;

@@ -1,12 +1,11 @@
 -- No line is longer than it has room for. Assumes nothing.
-use Rattle.std.proofs.Common.{◌≡◌, ℕ, suc, ◌+◌, ◌^◌, ◌<◌, ◌≤◌, Bool, true, false, cond, not, ltb, List, [], ◌∷◌, ◌++◌, length, IfSome, Some, None, decimal, Option, unwrap_or, sym, refl, ap, ◌∙◌, subst, arith, length-append}
+use Rattle.std.proofs.Common.{◌≡◌, ℕ, suc, ◌^◌, ◌<◌, ◌≤◌, Bool, true, false, not, ltb, length, IfSome, Some, None, decimal, Option, unwrap_or, arith, length-append}
 use Rattle.std.proofs.lemmas.Fmt.{length-decimal-le}
 use Rattle.std.proofs.lemmas.Bool.{cond_both, ltb-true}
 use Rattle.task.specs.Task.{timely}
 use Rattle.schedule.specs.declared.Call.TheVariants.{Admit}
 use Rattle.schedule.specs.declared.Refusal.{Refusal}
 use Rattle.schedule.specs.declared.Refusal.TheVariants.{NumberTooLarge, BadCard, NumberTaken, NoLevel}
-use Rattle.schedule.specs.declared.Answer.{Answer}
 use Rattle.schedule.specs.declared.Answer.TheVariants.{Level as LevelIs, Refused}
 use Rattle.schedule.specs.Calls.{ask, answer, answer_by, refusal, admitted}
 use Rattle.schedule.specs.Counting.{least}

@@ -1,9 +1,7 @@
 -- In a listing every task has its verdict. Assumes nothing.
-use Rattle.std.proofs.Common.{◌≡◌, ℕ, ◌<◌, Bool, true, false, not, ◌&&◌, ◌||◌, eqb, ltb, List, [], ◌∷◌, ◌++◌, map, Some, None, Option, sym, refl, ap, ◌∙◌, subst, inl, inr}
+use Rattle.std.proofs.Common.{◌≡◌, ℕ, ◌<◌, Bool, true, false, not, eqb, List, [], ◌∷◌, ◌++◌, map, Some, None, Option, sym, refl, ap, ◌∙◌, subst, inl, inr}
 use Rattle.std.proofs.lemmas.Bool.{eqb-false, ne_eqb, lt-ltb, and_parts, or_parts, not-true}
 use Rattle.std.specs.List.{AllByRecursion as All}
-use Rattle.plan.specs.Lawful.{Lawful}
-use Rattle.plan.specs.Reading.{Contents}
 use Rattle.plan.specs.Rows.{has, distinct}
 use Rattle.plan.proofs.Lawfulness.{reading_law}
 use Rattle.schedule.specs.Calls.{ask, refusal, reply, changed, answer, answer_by, after, state_by, admitted}

@@ -1,4 +1,6 @@
 // The listing of a plan: what the planner says of its rack and of each of its tasks.
+#![tactic(auto)]
+
 mod entry;
 mod lines;
 mod listings;

@@ -1,7 +1,7 @@
 -- The cycle of rows: the search for it, and one row more. Assumes nothing.
-use Rattle.std.proofs.Common.{◌≡◌, ℕ, zero, suc, ◌+◌, ◌-◌, ◌*◌, ◌/◌, ◌%◌, ◌<◌, ◌≤◌, Bool, true, false, ◌&&◌, eqb, ◌⊎◌, List, [], ◌∷◌, ◌++◌, map, length, get_or, take, drop, set, sym, refl, ap, ◌∙◌, inl, inr, mod-lt, mod-eq_of_lt, div-add-mod', add-one, arith}
+use Rattle.std.proofs.Common.{◌≡◌, ℕ, zero, suc, ◌+◌, ◌-◌, ◌*◌, ◌/◌, ◌%◌, ◌<◌, ◌≤◌, Bool, true, false, ◌&&◌, eqb, ◌⊎◌, List, [], ◌∷◌, ◌++◌, map, length, sym, refl, ap, ◌∙◌, inl, inr, mod-lt, mod-eq_of_lt, div-add-mod', arith}
 use native.Mathlib.Nat.{mod-mod_of_dvd, dvd_of_mod-eq-zero, zero-mod, add-mul-mod_self_right}
-use Rattle.std.proofs.lemmas.List.{at_drop_more, at_drop_all, take_more_set, map_push}
+use Rattle.std.proofs.lemmas.List.{map_push}
 use Rattle.std.proofs.lemmas.Bool.{eq-eqb, ne_eqb, and_left, and_right, and_parts, and_from, eqb-true, cases_Bool, cases_eq, cases_lt, both_ways}
 use Rattle.plan.specs.declared.row.SlotRow.{SlotRow}
 use Rattle.plan.specs.Rows.{marks_of, first_from, divided_by, cycle_of, periods_of, LeastCommon, CycleLaw}

@@ -1,11 +1,11 @@
 -- Numbers that stand once: there are no more of them below n than n. Assumes nothing.
-use Rattle.std.proofs.Common.{◌≡◌, ℕ, zero, suc, ◌+◌, ◌<◌, ◌≤◌, Bool, true, false, cond, not, ◌&&◌, ◌||◌, eqb, List, [], ◌∷◌, ◌++◌, map, length, get_or, take, drop, set, sym, refl, ap, ◌∙◌, inl, inr, arith}
+use Rattle.std.proofs.Common.{◌≡◌, ℕ, zero, suc, ◌+◌, ◌<◌, ◌≤◌, true, false, cond, not, ◌||◌, eqb, List, [], ◌∷◌, ◌++◌, map, length, get_or, take, drop, set, sym, refl, ap, ◌∙◌, inl, inr, arith}
 use Rattle.std.proofs.lemmas.List.{at_drop_more, length_push, length-map, length-take, take_more_set, map_push}
 use Rattle.std.proofs.ByRecursion.{All-push}
-use Rattle.std.proofs.lemmas.Bool.{eqb-true, eqb-false, eq-eqb, ne_eqb, cases_Bool, and_parts, and_from, or_parts, or_from, or_left, not-true, not_from_false}
+use Rattle.std.proofs.lemmas.Bool.{eqb-true, eqb-false, ne_eqb, cases_Bool, and_parts, and_from, or_parts, or_from, not-true, not_from_false}
 use Rattle.std.specs.List.{AllByRecursion as All}
 use Rattle.task.specs.declared.card.Card.{Card}
-use Rattle.task.specs.Task.{Task, task_of}
+use Rattle.task.specs.Task.{task_of}
 use Rattle.plan.specs.declared.cards.CardList.{CardList}
 use Rattle.plan.specs.Lists.{tasks_of}
 use Rattle.plan.specs.Rows.{has, distinct, ids_in}

@@ -1,7 +1,7 @@
 -- The marks of a row, one after another. Assumes nothing.
-use Rattle.std.proofs.Common.{◌≡◌, ℕ, ◌+◌, ◌<◌, ◌≤◌, Bool, true, false, cond, ◌&&◌, ◌||◌, eqb, leb, List, [], ◌∷◌, ◌++◌, map, length, get_or, take, drop, set, sym, refl, ap, ◌∙◌, arith}
-use Rattle.std.proofs.lemmas.List.{at_drop_more, at_drop_all, take_more_set, map_more, take_all}
-use Rattle.std.proofs.lemmas.Bool.{ne_eqb, le-leb, or_from, and_from, and_left}
+use Rattle.std.proofs.Common.{◌≡◌, ℕ, ◌+◌, ◌<◌, ◌≤◌, Bool, true, false, ◌&&◌, ◌||◌, eqb, List, [], ◌∷◌, ◌++◌, length, get_or, take, drop, set, sym, ap, ◌∙◌}
+use Rattle.std.proofs.lemmas.List.{at_drop_more, at_drop_all, take_more_set, map_more}
+use Rattle.std.proofs.lemmas.Bool.{ne_eqb, or_from, and_left}
 use Rattle.plan.specs.Marks.{all_marks, given}
 
 module _ (bytes : List ℕ) (i : ℕ) (inside : i < length bytes) (sofar : all_marks (drop i bytes) ≡ all_marks bytes) where

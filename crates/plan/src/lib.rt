@@ -1,4 +1,6 @@
 // A plan text and what it says: the rows of a slot table and the cards of tasks, or the first fault in it.
+#![tactic(auto)]
+
 mod cards;
 mod draft;
 mod fault;

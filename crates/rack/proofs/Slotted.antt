@@ -1,5 +1,5 @@
 -- What the rows of a slot table give repeats itself with their cycle. Assumes nothing.
-use Rattle.std.proofs.Common.{◌≡◌, ℕ, zero, suc, ◌+◌, ◌-◌, ◌*◌, ◌%◌, ◌<◌, ◌≤◌, Bool, true, false, cond, List, [], ◌∷◌, map, length, get_or, take, replicate, Some, sum_by, sym, refl, ap, ◌∙◌, inl, inr, mod-eq_of_lt, add_comm, zero-add, mul-one, arith}
+use Rattle.std.proofs.Common.{◌≡◌, ℕ, zero, suc, ◌+◌, ◌-◌, ◌%◌, ◌<◌, ◌≤◌, Bool, true, false, cond, List, [], ◌∷◌, map, length, get_or, take, replicate, Some, sym, refl, ap, ◌∙◌, inl, inr, mod-eq_of_lt, add_comm, zero-add, mul-one, arith}
 use mathlib.Core.Path.{fun_ext}
 use native.Mathlib.Nat.{mod-add-mod, add-mod_right}
 use Rattle.std.proofs.lemmas.List.Sums.{sum_by-cons, sum_by_more}

@@ -2,12 +2,11 @@
 use Rattle.std.specs.Prelude.{◌≡◌, ℕ, zero, suc, ◌+◌, ◌-◌, ◌*◌, ◌/◌, ◌%◌, ◌<◌, ◌≤◌, min, max, List, slice_index}
 use Rattle.std.proofs.Math.Path.{refl, ap}
 use Rattle.std.proofs.Common.{sym, ◌∙◌, add_assoc, add-zero, zero-add, add-suc, suc-mul, zero-mul, div-add-mod', mod-lt, mod-eq_of_lt}
-use Rattle.std.proofs.Math.Decide.{dec_le}
 use Rattle.std.proofs.Math.Nat.{mod-add-div', mod-add-mod, mod_self, add-mod_right}
 use native.Mathlib.Omega.{arith}
 use Rattle.supply.specs.Window.{window, Windows}
 use Rattle.supply.specs.Windows.{window_cap}
-use Rattle.rack.specs.Least.{least, Least}
+use Rattle.rack.specs.Least.{Least}
 use Rattle.rack.specs.Cycle.{repeated, repeated_from, Periodic, least_window, cycle_table, LeastWindow, ByCycles}
 use Rattle.rack.specs.LeastLemmas.{least_below, least_met, least_is, least_more, least_next}
 

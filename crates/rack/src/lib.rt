@@ -1,4 +1,6 @@
 // Racks whose processors are given in a cycle that repeats itself.
+#![tactic(auto)]
+
 mod counts;
 mod kept;
 mod levels;

@@ -1,4 +1,6 @@
 // Worked readings of the definitions, proved as one statement, and run on the code.
+#![tactic(auto)]
+
 ghost use Rattle.std.specs.Prelude.{◌≡◌, true};
 ghost use Rattle.readings.specs.Readings.{Readings};
 

@@ -1,10 +1,8 @@
 -- Rows with one of them replaced, and sums over the others. Assumes nothing.
 use Rattle.std.proofs.Common.{◌≡◌, ℕ, ◌+◌, ◌<◌, ◌≤◌, Bool, true, false, cond, eqb, List, length, get_or, set, sym, refl, arith, get_or-set_other, get_or-set_same}
-use Rattle.std.proofs.lemmas.Bool.{eqb-true, eqb-false, eq-eqb, ne_eqb, le-leb, leb-true, true≢false}
+use Rattle.std.proofs.lemmas.Bool.{eqb-true, eqb-false, eq-eqb, ne_eqb, true≢false}
 use Rattle.schedule.specs.declared.TaskRow.{TaskRow}
-use Rattle.schedule.specs.Counting.{sum}
 use Rattle.schedule.specs.State.{blank, put}
-use Rattle.schedule.specs.Test.{others, load, serves}
 
 module _ (slot : ℕ → TaskRow) (id : ℕ) (r : TaskRow) where
   pub put_same : (i : ℕ) → i ≡ id → put slot id r i ≡ r

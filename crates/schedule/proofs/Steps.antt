@@ -2,14 +2,13 @@
 use Rattle.std.proofs.Common.{◌≡◌, ℕ, ◌+◌, ◌<◌, ◌≤◌, Bool, true, false, cond, leb, ◌⊎◌, Some, None, Option, sym, refl, ap, ◌∙◌, inl, inr, arith}
 use Rattle.std.proofs.lemmas.Bool.{cases_lt, cases_eq, eq-eqb, ne_eqb, ltb-true, leb-true, and_parts, not-true}
 use Rattle.task.specs.Task.{timely}
-use Rattle.schedule.specs.declared.TaskRow.{TaskRow}
 use Rattle.schedule.specs.declared.Call.{Call}
 use Rattle.schedule.specs.declared.Call.TheVariants.{Admit, Level, Withdraw, Release, Tick}
 use Rattle.schedule.specs.declared.Refusal.{Refusal}
 use Rattle.schedule.specs.declared.Answer.TheVariants.{Passed}
 use Rattle.schedule.specs.State.{State, blank, put}
 use Rattle.schedule.specs.Test.{passes}
-use Rattle.schedule.specs.Order.{unfinished, runs, word, spent, names}
+use Rattle.schedule.specs.Order.{runs, spent}
 use Rattle.schedule.specs.Calls.{ask, admitted, released, quiet, ready, refusal, reply, changed, answer_by, state_by, answer, after}
 use Rattle.schedule.specs.Entries.{Entry, ticks, naming, accepted, leaves, deadline_by}
 use Rattle.schedule.proofs.Jobs.{names_runs, runs_lacks}

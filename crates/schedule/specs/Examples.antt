@@ -1,15 +1,13 @@
 -- Worked examples of the definitions. Assumes nothing.
 use Rattle.std.specs.Prelude.{◌≡◌, ℕ, ◌*◌, min, List, [], ◌∷◌, refl}
-use Rattle.schedule.specs.declared.Call.{Call}
 use Rattle.schedule.specs.declared.Call.TheVariants.{Admit, Level, Withdraw, Release, Tick}
 use Rattle.schedule.specs.declared.Refusal.TheVariants.{NumberTooLarge, BadCard, NumberTaken, NoLevel, NotHeld, JobUnfinished, BadRunTime, TooSoon, ClockAtEnd}
-use Rattle.schedule.specs.declared.Answer.{Answer}
 use Rattle.schedule.specs.declared.Answer.TheVariants.{Level as LevelIs, Passed, Ticked, Refused}
 use Rattle.schedule.specs.Counting.{sum, least}
 use Rattle.schedule.specs.State.{State, blank, fresh}
 use Rattle.schedule.specs.Test.{charge, serves, witness, first_unserved}
 use Rattle.schedule.specs.Order.{ahead, rank, word}
-use Rattle.schedule.specs.Calls.{answer, after, refusal}
+use Rattle.schedule.specs.Calls.{answer, refusal}
 use Rattle.schedule.specs.Shift.{answers_of}
 use Rattle.schedule.specs.Entries.{Entry, clock_of, namings, deadline_from, deadline_of, stretch, to_come, named_by}
 

@@ -1,4 +1,6 @@
 // What a dispatcher is asked and answers, and the promise that it keeps over a whole shift of calls.
+#![tactic(auto)]
+
 ghost use Rattle.std.specs.Prelude.{◌≡◌, true};
 ghost use Rattle.schedule.specs.Numbers.{number_of, task_named};
 ghost use Rattle.schedule.specs.Test.{TestLaw};

@@ -1,4 +1,6 @@
 // A supply stands for the processors that the control loop is given.
+#![tactic(auto)]
+
 ghost use Rattle.std.specs.Prelude.{◌≡◌, ℕ, suc, min};
 ghost use Rattle.supply.specs.Window.{Bounded, Windows};
 

@@ -1,4 +1,6 @@
 // Bytes: where they are cut, and the numbers that they write.
+#![tactic(auto)]
+
 ghost use Rattle.std.specs.Prelude.{◌≡◌, ◌≤◌, length};
 ghost use Rattle.text.specs.Bytes.{before, Cut};
 ghost use Rattle.text.specs.Decimal.{number, number32, number_up_to, value_after};

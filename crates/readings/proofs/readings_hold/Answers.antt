@@ -1,4 +1,4 @@
-use Rattle.std.proofs.Common.{◌≡◌, ℕ, refl, ◌∙◌}
+use Rattle.std.proofs.Common.{refl}
 use Rattle.text.specs.Bytes.{parts}
 use Rattle.plan.specs.Rows.{first_from}
 use Rattle.rack.specs.Least.{least as leastOf}

@@ -1,6 +1,6 @@
 use Rattle.std.proofs.Common.{◌≡◌, false, sym, ap, ◌∙◌, arith, below_more}
 use Rattle.std.proofs.lemmas.Bool.{and_from, and_left, and_right, not-true, not-false}
-use Rattle.schedule.specs.Test.{unserved, witness}
+use Rattle.schedule.specs.Test.{unserved}
 use Rattle.dispatch.specs.Found.{task_found}
 use Rattle.dispatch.specs.Rows.{slots}
 use Rattle.dispatch.proofs.Tests.{unserved_first, all_served, none_witness, task_some}

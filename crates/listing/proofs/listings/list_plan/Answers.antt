@@ -1,4 +1,4 @@
-use Rattle.std.proofs.Common.{◌≡◌, ◌≤◌, map, length, sym, ap, ◌∙◌, arith}
+use Rattle.std.proofs.Common.{length, ap, ◌∙◌, arith}
 use mathlib.Core.Path.{fun_ext}
 use Rattle.plan.specs.Contents.{contents}
 use Rattle.schedule.specs.State.{fresh}

@@ -1,4 +1,4 @@
-use Rattle.std.proofs.Common.{◌≡◌, ◌+◌, ◌<◌, ◌≤◌, length, unwrap_or, sym, ap, ◌∙◌, arith}
+use Rattle.std.proofs.Common.{◌≡◌, ◌+◌, ◌≤◌, length, unwrap_or, ap, ◌∙◌, arith}
 use Rattle.dispatch.specs.Dispatcher.{state_of}
 use Rattle.schedule.specs.declared.Call.TheVariants.{Admit}
 use Rattle.schedule.specs.declared.Answer.TheVariants.{Level as LevelIs, Refused}

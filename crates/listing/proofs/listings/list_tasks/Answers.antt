@@ -1,4 +1,4 @@
-use Rattle.std.proofs.Common.{◌≡◌, ◌+◌, ◌≤◌, List, [], ◌++◌, length, drop, sym, ap, ◌∙◌, subst, arith}
+use Rattle.std.proofs.Common.{◌+◌, ◌≤◌, length, drop, sym, subst, arith}
 use Rattle.dispatch.specs.Dispatcher.{state_of}
 use Rattle.plan.specs.Contents.{contents}
 use Rattle.plan.proofs.Taken.{nth_none}

@@ -1,4 +1,4 @@
-use Rattle.std.proofs.Common.{◌≡◌, ◌+◌, ◌-◌, ◌%◌, Bool, true, false, cond, length, sym, refl, ap, ◌∙◌, subst, add-zero, add_assoc, arith}
+use Rattle.std.proofs.Common.{◌≡◌, ◌+◌, ◌-◌, Bool, true, false, cond, length, sym, refl, ap, ◌∙◌, subst, add-zero, add_assoc, arith}
 use native.Mathlib.Nat.{add-mod_right}
 use mir.Val.{bool_byte}
 use Rattle.plan.specs.Rows.{marks_of}

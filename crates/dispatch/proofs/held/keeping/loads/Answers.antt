@@ -1,4 +1,4 @@
-use Rattle.std.proofs.Common.{◌≡◌, length, sym, ap, ◌∙◌, arith, length-set}
+use Rattle.std.proofs.Common.{arith, length-set}
 use Rattle.schedule.specs.Test.{load}
 use Rattle.dispatch.specs.Rows.{slots}
 use Rattle.dispatch.proofs.Loads.{placed, passed_by, load_by}

@@ -1,4 +1,4 @@
-use Rattle.std.proofs.Common.{◌≡◌, false, map, sym, ap, ◌∙◌, arith, length-set, rules}
+use Rattle.std.proofs.Common.{◌≡◌, false, map, arith, length-set, rules}
 use Rattle.plan.specs.Rows.{has}
 use Rattle.plan.specs.Lists.{tasks_of}
 use Rattle.plan.proofs.Distinct.{room_left, still_distinct, one_task_more}

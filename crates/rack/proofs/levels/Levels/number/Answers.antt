@@ -1,4 +1,4 @@
-use Rattle.std.proofs.Common.{min, sym, ap, ◌∙◌, arith}
+use Rattle.std.proofs.Common.{arith}
 use Rattle.rack.proofs.Sums.{repeated_first}
 use Rattle.rack.proofs.levels.Levels.number.Goals as goal
 
