@@ -2,6 +2,8 @@ pub mod Tables
 pub mod Tests
 pub mod Refusals
 pub mod Words
+pub mod Picks
+pub mod Spending
 pub mod Keys
 pub mod Places
 pub mod Waiting

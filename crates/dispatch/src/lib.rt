@@ -5,6 +5,7 @@ mod charges;
 mod dispatcher;
 mod held;
 mod jobs;
+mod select;
 mod shift;
 mod table;
 mod test;

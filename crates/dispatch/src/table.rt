@@ -179,17 +179,6 @@ mod tests {
     }
 
     #[test]
-    fn those_that_ran_lack_less(rt: HostRuntime) {
-        let mut tasks = jobs();
-        tasks.release(1, 0, 0);
-        assert_eq!(rt; tasks.run(2), 0b1000_1000);
-        assert_eq!(rt; tasks.row(1).lacking, 0);
-        assert_eq!(rt; tasks.row(3).lacking, 1);
-        assert_eq!(rt; tasks.row(5).lacking, 1);
-        assert_eq!(rt; tasks.row(7).lacking, 2);
-    }
-
-    #[test]
     fn jobs_run_until_they_are_done(rt: HostRuntime) {
         let mut tasks = jobs();
         assert_eq!(rt; tasks.run(2), 0b1000_1000);

@@ -1,7 +1,7 @@
 -- In a listing every task has its verdict. Assumes nothing.
 use Rattle.std.proofs.Common.{◌≡◌, ℕ, ◌<◌, Bool, true, false, not, eqb, List, [], ◌∷◌, ◌++◌, map, Some, None, Option, sym, refl, ap, ◌∙◌, subst, inl, inr}
 use Rattle.std.proofs.lemmas.Bool.{eqb-false, ne_eqb, lt-ltb, and_parts, or_parts, not-true}
-use Rattle.std.specs.List.{AllByRecursion as All}
+use Rattle.std.specs.List.{AllByRecursion}
 use Rattle.plan.specs.Rows.{has, distinct}
 use Rattle.plan.proofs.Lawfulness.{reading_law}
 use Rattle.schedule.specs.Calls.{ask, refusal, reply, changed, answer, answer_by, after, state_by, admitted}
@@ -16,7 +16,7 @@ use Rattle.listing.specs.Listing.{admission, over_rack, Verdict, Verdicts}
 
 -- ---- the task at a place of a list
 
-all_at : {X : Type 0} (P : X → Type 0) (xs : List X) (y : X) (ys : List X) → All P (xs ++ y ∷ ys) → P y
+all_at : {X : Type 0} (P : X → Type 0) (xs : List X) (y : X) (ys : List X) → AllByRecursion P (xs ++ y ∷ ys) → P y
 all_at P [] y ys each = each.0
 all_at P (x ∷ xs) y ys each = all_at P xs y ys each.1
 
@@ -67,6 +67,6 @@ verdict s t below good free =
 pub verdicts : (text : List ℕ) → Verdicts text
 verdicts text c passed before behind t split =
     let lawful = reading_law text c passed in
-    let card = all_at (λ k. (k.id < 32) × (timely k.run k.period k.deadline ≡ true)) before t behind (subst (All _) split lawful.cards) in
+    let card = all_at (λ k. (k.id < 32) × (timely k.run k.period k.deadline ≡ true)) before t behind (subst (AllByRecursion _) split lawful.cards) in
     let once = once_at before t behind (ap (λ ts. distinct (ids ts)) (sym split) ∙ lawful.once) in
     verdict (after_all (over_rack c) (map admission before)) t card.0 card.1 (free_behind (over_rack c) before t.id refl once)

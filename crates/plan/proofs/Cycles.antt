@@ -5,7 +5,7 @@ use Rattle.std.proofs.lemmas.List.{map_push}
 use Rattle.std.proofs.lemmas.Bool.{eq-eqb, ne_eqb, and_left, and_right, and_parts, and_from, eqb-true, cases_Bool, cases_eq, cases_lt, both_ways}
 use Rattle.plan.specs.declared.row.SlotRow.{SlotRow}
 use Rattle.plan.specs.Rows.{marks_of, first_from, divided_by, cycle_of, periods_of, LeastCommon, CycleLaw}
-use Rattle.std.specs.List.{AllByRecursion as All}
+use Rattle.std.specs.List.{AllByRecursion}
 
 -- every period of a longer list divides h
 divided_push : (ps : List ℕ) (p h : ℕ) → divided_by (ps ++ p ∷ []) h ≡ (divided_by ps h && eqb (h % p) 0)
@@ -33,11 +33,11 @@ lengths_push rows r = ap (map length) (sym (map_push marks_of rows r)) ∙ lengt
 
 -- ---- the cycle is the least common multiple
 
-divided_all : (ps : List ℕ) (h : ℕ) → divided_by ps h ≡ true → All (λ p. h % p ≡ 0) ps
+divided_all : (ps : List ℕ) (h : ℕ) → divided_by ps h ≡ true → AllByRecursion (λ p. h % p ≡ 0) ps
 divided_all [] h e = tt
 divided_all (p ∷ ps) h e = let parts = and_parts (eqb (h % p) 0) (divided_by ps h) e in (eqb-true (h % p) 0 parts.0, divided_all ps h parts.1)
 
-all_divided : (ps : List ℕ) (h : ℕ) → All (λ p. h % p ≡ 0) ps → divided_by ps h ≡ true
+all_divided : (ps : List ℕ) (h : ℕ) → AllByRecursion (λ p. h % p ≡ 0) ps → divided_by ps h ≡ true
 all_divided [] h a = refl
 all_divided (p ∷ ps) h a = and_from (eqb (h % p) 0) (divided_by ps h) (eq-eqb (h % p) 0 a.0) (all_divided ps h a.1)
 
@@ -90,11 +90,11 @@ least_common ps few = elim (cycle_law ps) [ inl l ↦ l.1 | inr n ↦ absurd (le
 -- ---- one row more
 
 -- what is left of a common multiple behind whole cycles is one too
-all_left : (ps : List ℕ) (h k : ℕ) → All (λ p. h % p ≡ 0) ps → All (λ p. k % p ≡ 0) ps → All (λ p. k % h % p ≡ 0) ps
+all_left : (ps : List ℕ) (h k : ℕ) → AllByRecursion (λ p. h % p ≡ 0) ps → AllByRecursion (λ p. k % p ≡ 0) ps → AllByRecursion (λ p. k % h % p ≡ 0) ps
 all_left [] h k a b = tt
 all_left (p ∷ ps) h k a b = (mod-mod_of_dvd p k (dvd_of_mod-eq-zero p a.0) ∙ b.0, all_left ps h k a.1 b.1)
 
-all_multiple : (ps : List ℕ) (h k : ℕ) → All (λ p. h % p ≡ 0) ps → k % h ≡ 0 → All (λ p. k % p ≡ 0) ps
+all_multiple : (ps : List ℕ) (h k : ℕ) → AllByRecursion (λ p. h % p ≡ 0) ps → k % h ≡ 0 → AllByRecursion (λ p. k % p ≡ 0) ps
 all_multiple [] h k a whole = tt
 all_multiple (p ∷ ps) h k a whole = (sym (mod-mod_of_dvd p k (dvd_of_mod-eq-zero p a.0)) ∙ (ap (λ x. x % p) whole ∙ zero-mod p), all_multiple ps h k a.1 whole)
 

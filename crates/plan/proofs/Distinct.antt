@@ -3,7 +3,7 @@ use Rattle.std.proofs.Common.{◌≡◌, ℕ, zero, suc, ◌+◌, ◌<◌, ◌�
 use Rattle.std.proofs.lemmas.List.{at_drop_more, length_push, length-map, length-take, take_more_set, map_push}
 use Rattle.std.proofs.ByRecursion.{All-push}
 use Rattle.std.proofs.lemmas.Bool.{eqb-true, eqb-false, ne_eqb, cases_Bool, and_parts, and_from, or_parts, or_from, not-true, not_from_false}
-use Rattle.std.specs.List.{AllByRecursion as All}
+use Rattle.std.specs.List.{AllByRecursion}
 use Rattle.task.specs.declared.card.Card.{Card}
 use Rattle.task.specs.Task.{task_of}
 use Rattle.plan.specs.declared.cards.CardList.{CardList}
@@ -52,7 +52,7 @@ length_without m (x ∷ xs) h =
       | inr e ↦ rw e (omega (arith, length_without m xs parts.1))
     ]
 
-below_without : (m : ℕ) (xs : List ℕ) → All (λ i. i < suc m) xs → All (λ i. i < m) (without m xs)
+below_without : (m : ℕ) (xs : List ℕ) → AllByRecursion (λ i. i < suc m) xs → AllByRecursion (λ i. i < m) (without m xs)
 unfolding without
 below_without m [] h = tt
 below_without m (x ∷ xs) h =
@@ -61,7 +61,7 @@ below_without m (x ∷ xs) h =
       | inr e ↦ rw e (let other = eqb-false x m e in let first = h.0 in (omega arith, below_without m xs h.1))
     ]
 
-pub few : (n : ℕ) (xs : List ℕ) → distinct xs ≡ true → All (λ i. i < n) xs → length xs ≤ n
+pub few : (n : ℕ) (xs : List ℕ) → distinct xs ≡ true → AllByRecursion (λ i. i < n) xs → length xs ≤ n
 few zero [] h below = omega arith
 few zero (x ∷ xs) h below = absurd (let first = below.0 in omega arith)
 few (suc n) xs h below =
@@ -86,7 +86,7 @@ distinct_push (x ∷ xs) y d h =
 
 -- ---- the numbers of cards
 
-pub ids_below : (cards : List Card) → All (λ i. i < 32) (map (λ c. c.id) cards)
+pub ids_below : (cards : List Card) → AllByRecursion (λ i. i < 32) (map (λ c. c.id) cards)
 ids_below [] = tt
 ids_below (c ∷ cards) = (c.numbered, ids_below cards)
 

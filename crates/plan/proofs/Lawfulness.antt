@@ -3,7 +3,7 @@ use Rattle.std.proofs.Common.{◌≡◌, ℕ, ◌+◌, ◌<◌, ◌≤◌, Bool,
 use Rattle.std.proofs.ByRecursion.{All-push}
 use Rattle.std.proofs.lemmas.List.{length_push, length-map, map_push}
 use Rattle.std.proofs.lemmas.Bool.{eqb-true, leb-true, ltb-true, and_parts, and_from, not-true}
-use Rattle.std.specs.List.{AllByRecursion as All}
+use Rattle.std.specs.List.{AllByRecursion}
 use Rattle.task.specs.Task.{Task, timely}
 use Rattle.text.specs.Bytes.{parts}
 use Rattle.plan.specs.declared.fault.Fault.{Fault}
@@ -18,9 +18,9 @@ use Rattle.plan.proofs.Distinct.{distinct_push}
 -- lawful, but that there may be no row yet
 record SoFar (c : Contents) : Type 0 where
   few : length c.rows ≤ 8
-  marked : All (λ marks. (1 ≤ length marks) × (length marks ≤ 64)) c.rows
+  marked : AllByRecursion (λ marks. (1 ≤ length marks) × (length marks ≤ 64)) c.rows
   cycle : cycle_of (map length c.rows) ≤ 512
-  cards : All (λ t. (t.id < 32) × (timely t.run t.period t.deadline ≡ true)) c.tasks
+  cards : AllByRecursion (λ t. (t.id < 32) × (timely t.run t.period t.deadline ≡ true)) c.tasks
   once : distinct (map (λ t. t.id) c.tasks) ≡ true
 
 -- what holds of all that is said, wherever there is no fault

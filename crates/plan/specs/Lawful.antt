@@ -1,6 +1,6 @@
 -- What every plan holds. Assumes nothing.
 use Rattle.std.specs.Prelude.{◌≡◌, ℕ, ◌<◌, ◌≤◌, true, List, map, length, Ok}
-use Rattle.std.specs.List.{AllByRecursion as All}
+use Rattle.std.specs.List.{AllByRecursion}
 use Rattle.plan.specs.Reading.{Contents, reading}
 use Rattle.plan.specs.Rows.{cycle_of, distinct}
 use Rattle.task.specs.Task.{timely}
@@ -9,9 +9,9 @@ use Rattle.task.specs.Task.{timely}
 pub record Lawful (c : Contents) : Type 0 where
   pub some : 1 ≤ length c.rows
   pub few : length c.rows ≤ 8
-  pub marked : All (λ marks. (1 ≤ length marks) × (length marks ≤ 64)) c.rows
+  pub marked : AllByRecursion (λ marks. (1 ≤ length marks) × (length marks ≤ 64)) c.rows
   pub cycle : cycle_of (map length c.rows) ≤ 512
-  pub cards : All (λ t. (t.id < 32) × (timely t.run t.period t.deadline ≡ true)) c.tasks
+  pub cards : AllByRecursion (λ t. (t.id < 32) × (timely t.run t.period t.deadline ≡ true)) c.tasks
   pub once : distinct (map (λ t. t.id) c.tasks) ≡ true
 
 -- whatever passes the questions is lawful

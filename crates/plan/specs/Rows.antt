@@ -1,6 +1,6 @@
 -- Rows of the slot table, their cycle, and numbers that stand once. Assumes nothing.
 use Rattle.std.specs.Prelude.{◌≡◌, ℕ, zero, suc, ◌%◌, ◌<◌, ◌≤◌, Bool, true, false, cond, not, ◌&&◌, ◌||◌, ◌⊎◌, List, [], ◌∷◌, map, length, take, ◌==◌}
-use Rattle.std.specs.List.{AllByRecursion as All}
+use Rattle.std.specs.List.{AllByRecursion}
 use Rattle.plan.specs.declared.row.SlotRow.{SlotRow}
 use Rattle.task.specs.declared.card.Card.{Card}
 
@@ -24,11 +24,11 @@ cycle_of periods = first_from (divided_by periods) 1 512
 
 -- h is the least common multiple of the periods: every one divides it, and of the numbers from 1 on it is the least that every one divides
 abbrev pub LeastCommon : List ℕ → ℕ → Type 0
-LeastCommon periods h = (1 ≤ h) × All (λ p. h % p ≡ 0) periods × ((k : ℕ) → 1 ≤ k → All (λ p. k % p ≡ 0) periods → h ≤ k)
+LeastCommon periods h = (1 ≤ h) × AllByRecursion (λ p. h % p ≡ 0) periods × ((k : ℕ) → 1 ≤ k → AllByRecursion (λ p. k % p ≡ 0) periods → h ≤ k)
 
 -- the cycle is the least common multiple wherever that is at most 512, and elsewhere 513
 abbrev pub CycleLaw : Type 0
-CycleLaw = (periods : List ℕ) → ((cycle_of periods ≤ 512) × LeastCommon periods (cycle_of periods)) ⊎ ((cycle_of periods ≡ 513) × ((k : ℕ) → 1 ≤ k → All (λ p. k % p ≡ 0) periods → 512 < k))
+CycleLaw = (periods : List ℕ) → ((cycle_of periods ≤ 512) × LeastCommon periods (cycle_of periods)) ⊎ ((cycle_of periods ≡ 513) × ((k : ℕ) → 1 ≤ k → AllByRecursion (λ p. k % p ≡ 0) periods → 512 < k))
 
 abbrev pub has : ℕ → List ℕ → Bool
 has n [] = false

@@ -7,7 +7,7 @@ use Rattle.std.proofs.ByRecursion.{sum_by_le}
 use Rattle.std.proofs.lemmas.List.{length-take, take_all}
 use Rattle.plan.proofs.Taken.{nth_some}
 use Rattle.std.proofs.lemmas.Bool.{cases_lt}
-use Rattle.std.specs.List.{slice_get, AllByRecursion as All}
+use Rattle.std.specs.List.{slice_get, AllByRecursion}
 use Rattle.plan.specs.Rows.{cycle_of, LeastCommon}
 use Rattle.rack.specs.Cycle.{Periodic, repeated, cycle_table, least_window}
 use Rattle.rack.specs.Least.{Least}
@@ -29,7 +29,7 @@ round_left left p pos e = elim (cases_lt left p) [
 ]
 
 -- the cycle is a multiple of each row's period
-pub divided : (h : ℕ) (rows : List (List Bool)) (n : ℕ) (marks : List Bool) → Some marks ≡ slice_get rows n → All (λ p. h % p ≡ 0) (map length rows) → h % length marks ≡ 0
+pub divided : (h : ℕ) (rows : List (List Bool)) (n : ℕ) (marks : List Bool) → Some marks ≡ slice_get rows n → AllByRecursion (λ p. h % p ≡ 0) (map length rows) → h % length marks ≡ 0
 divided h [] n marks is all = absurd (omega (arith, (nth_some {X = List Bool} [] n marks is).0))
 divided h (m ∷ rows) zero marks is all = ap (λ l. h % length l) (sym (nth_some (m ∷ rows) zero marks is).1) ∙ all.0
 divided h (m ∷ rows) (suc n) marks is all = divided h rows n marks is all.1
@@ -39,7 +39,7 @@ pub gives_later : (marks : List Bool) (start i : ℕ) → start % length marks �
 gives_later marks start i e =
     ap (gives marks) (add_comm start i) ∙ ap (λ y. cond (get_or marks y false) 1 0) (later i start (length marks) e)
 
-pub row_round : (h : ℕ) (rows : List (List Bool)) → All (λ p. h % p ≡ 0) (map length rows) → Periodic h (slot_row rows)
+pub row_round : (h : ℕ) (rows : List (List Bool)) → AllByRecursion (λ p. h % p ≡ 0) (map length rows) → Periodic h (slot_row rows)
 row_round h [] a x = refl
 row_round h (m ∷ rows) a x =
     sum_by-cons (λ marks. gives marks (x + h)) m rows
@@ -54,7 +54,7 @@ one_or_none false = omega arith
 pub row_few : (rows : List (List Bool)) (x : ℕ) → slot_row rows x ≤ length rows
 row_few rows x = omega (arith, sum_by_le (λ marks. gives marks x) 1 rows (each rows), mul-one (length rows))
   where
-    each : (ms : List (List Bool)) → All (λ marks. gives marks x ≤ 1) ms
+    each : (ms : List (List Bool)) → AllByRecursion (λ marks. gives marks x ≤ 1) ms
     each [] = tt
     each (m ∷ ms) = (one_or_none (get_or m (x % length m) false), each ms)
 

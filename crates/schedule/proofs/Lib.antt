@@ -5,6 +5,7 @@ pub mod Words
 pub mod Levels
 pub mod Rest
 pub mod Jobs
+pub mod Next
 pub mod Rows
 pub mod Invariant
 pub mod Steps

@@ -1,6 +1,6 @@
 -- Those that run where the jobs below n are ranked by a strict order: at most g, and all g where one is left out. Assumes nothing.
-use Rattle.std.proofs.Common.{◌≡◌, ℕ, zero, suc, ◌+◌, ◌<◌, ◌≤◌, Bool, true, false, cond, ◌&&◌, eqb, ltb, ◌⊎◌, refl, ap, inl, inr, arith}
-use Rattle.std.proofs.lemmas.Bool.{cases_eq, eqb-false, ltb-true, ltb-false, and_parts, and_from, both_ways}
+use Rattle.std.proofs.Common.{◌≡◌, ℕ, zero, suc, ◌+◌, ◌<◌, ◌≤◌, Bool, true, false, cond, ◌&&◌, eqb, ltb, ◌⊎◌, refl, ap, subst, inl, inr, le_antisymm, arith}
+use Rattle.std.proofs.lemmas.Bool.{cases_eq, cases_Bool, eqb-false, ltb-true, ltb-false, and_parts, and_from, both_ways}
 use Rattle.schedule.specs.Counting.{sum}
 use Rattle.schedule.proofs.Sums.{sum_le, sum_lt, sum_two, sum_one, sum_zero, below_or}
 
@@ -99,3 +99,17 @@ module _ (n : ℕ) (U : ℕ → Bool) (A : ℕ → ℕ → Bool) (order : Strict
       go : ((i : ℕ) → i < n → cond (runs_in i) 1 0 ≤ 0) ⊎ ((i : ℕ) × (i < n) × (0 < cond (runs_in i) 1 0)) → sum n (λ i. cond (runs_in i) 1 0) ≤ g
       go (inl each) = omega (arith, sum_zero n, sum_le n (λ i. cond (runs_in i) 1 0) (λ _. 0) each)
       go (inr w) = last_runs g w.0 w.1 (one_lt false (runs_in w.0) w.2).1 (omega arith)
+
+  -- where k comes before all others that are left out, g are ranked before it
+  pub first_left : (k : ℕ) → k < n → U k ≡ true → runs_in k ≡ false → ((i : ℕ) → i < n → U i ≡ true → runs_in i ≡ false → (i ≡ k → ⊥) → A k i ≡ true) → rank_in k ≡ g
+  first_left k below u out first = le_antisymm few (ltb-false (rank_in k) g (rw u at out))
+    where
+      each : (i : ℕ) → i < n → U i && A i k ≡ true → (runs_in i ≡ true) ⊎ (runs_in i ≡ false) → runs_in i ≡ true
+      each i l e (inl r) = r
+      each i l e (inr o) =
+          let p = and_parts (U i) (A i k) e in
+          let apart : i ≡ k → ⊥ = λ q. both_ways (A k k) (order.irreflexive k) (subst (λ x. A x k ≡ true) q p.1) in
+          absurd (both_ways (A i i) (order.irreflexive i) (order.transitive i k i p.1 (first i l p.0 o apart)))
+
+      few : rank_in k ≤ g
+      few = omega (arith, at_most_g, sum_le n (λ i. cond (U i && A i k) 1 0) (λ i. cond (runs_in i) 1 0) (λ i l. one_le (U i && A i k) (runs_in i) (λ e. each i l e (cases_Bool (runs_in i)))))

@@ -1,0 +1,143 @@
+// Which jobs run in a tick: as many as there are processors, those that have to be done the soonest.
+ghost use Rattle.std.specs.Prelude.{◌≡◌, ℕ, ◌<◌, true, length, get_or, ◌==◌, slice_index, slice_index_or};
+ghost use Rattle.schedule.specs.State.{blank};
+ghost use Rattle.schedule.specs.Order.{unfinished, word, names, spent};
+ghost use Rattle.dispatch.specs.Times.{never, due_time, Soonest};
+
+use crate::table::ROWS;
+use schedule::TaskRow;
+
+// later than every time by which a job has to be done
+const NEVER: u64 = u64::MAX;
+
+// The time by which the row's job has to be done; NEVER, where it has no unfinished job.
+fn due_time(row: &TaskRow) -> u64
+    ensures value { result ≡ due_time row.now }
+    ensures sooner { unfinished row.now ≡ true → result < never }
+{
+    if row.held && row.lacking > 0 {
+        u64::from(row.latest.unwrap_or(0)) + u64::from(row.deadline)
+    } else {
+        NEVER
+    }
+}
+
+// The times of all rows.
+fn due_times(rows: &[TaskRow; ROWS]) -> [u64; ROWS]
+    ensures full { length result ≡ 32 }
+    ensures value { (i : ℕ) → i < 32 → slice_index result i ≡ due_time (slice_index_or rows.now i blank) }
+    ensures sooner { (i : ℕ) → i < 32 → unfinished (slice_index_or rows.now i blank) ≡ true → slice_index result i < never }
+{
+    let mut times = [NEVER; ROWS];
+    for i in 0..ROWS {
+        times[i] = due_time(&rows[i]);
+    }
+    times
+}
+
+// The place of the soonest time, the first among equals.
+fn soonest(times: &[u64; ROWS]) -> usize
+    ensures { Soonest times.now result }
+{
+    let mut best = 0;
+    for i in 1..ROWS {
+        if times[i] < times[best] {
+            best = i;
+        }
+    }
+    best
+}
+
+// The word of the tasks that run on `given` processors: bit i is set where task i runs.
+pub(crate) fn select(rows: &[TaskRow; ROWS], given: u32) -> u32
+    ensures { result ≡ word (λ i. get_or rows.now i blank) given }
+{
+    let mut times = due_times(rows);
+    let mut word = 0;
+    for _picked in 0..given {
+        let k = soonest(&times);
+        if times[k] == NEVER {
+            break;
+        }
+        times[k] = NEVER;
+        word |= 1 << k;
+    }
+    word
+}
+
+// Each task that the word names lacks one tick less.
+pub(crate) fn spend(rows: &mut [TaskRow; ROWS], ran: u32)
+    ensures full { length rows.new ≡ 32 }
+    ensures rows { (i : ℕ) → slice_index_or rows.new i blank ≡ spent (names ran i == 1) (slice_index_or rows.old i blank) }
+{
+    for i in 0..ROWS {
+        if ran >> i & 1 == 1 {
+            rows[i].lacking = rows[i].lacking.saturating_sub(1);
+        }
+    }
+}
+
+#[cfg(test)]
+mod tests {
+    use super::*;
+
+    const FREE: TaskRow = TaskRow {
+        held: false,
+        run: 0,
+        period: 0,
+        deadline: 0,
+        latest: None,
+        lacking: 0,
+    };
+
+    // A task that runs 3 ticks, with a job that lacks some of them.
+    fn job(released: u32, deadline: u32, lacking: u32) -> TaskRow {
+        TaskRow {
+            held: true,
+            run: 3,
+            period: 100,
+            deadline,
+            latest: Some(released),
+            lacking,
+        }
+    }
+
+    // Jobs 3 and 5 have to be done at 12, job 7 at 11; job 1 lacks nothing.
+    fn jobs() -> [TaskRow; ROWS] {
+        let mut rows = [FREE; ROWS];
+        rows[1] = job(0, 5, 0);
+        rows[3] = job(2, 10, 2);
+        rows[5] = job(0, 12, 1);
+        rows[7] = job(3, 8, 3);
+        rows
+    }
+
+    #[test]
+    fn the_soonest_run(rt: HostRuntime) {
+        let rows = jobs();
+        assert_eq!(rt; select(&rows, 0), 0);
+        assert_eq!(rt; select(&rows, 1), 0b1000_0000);
+        assert_eq!(rt; select(&rows, 2), 0b1000_1000);
+        assert_eq!(rt; select(&rows, 3), 0b1010_1000);
+        assert_eq!(rt; select(&rows, u32::MAX), 0b1010_1000);
+    }
+
+    #[test]
+    fn late_times_are_compared(rt: HostRuntime) {
+        let mut rows = [job(u32::MAX, u32::MAX, 1); ROWS];
+        assert_eq!(rt; select(&rows, 1), 1);
+        assert_eq!(rt; select(&rows, 32), u32::MAX);
+        rows[31].deadline = 1;
+        assert_eq!(rt; select(&rows, 1), 1 << 31);
+    }
+
+    #[test]
+    fn those_that_ran_lack_less(rt: HostRuntime) {
+        let mut rows = jobs();
+        spend(&mut rows, 0b1000_1010);
+        assert_eq!(rt; rows[1].lacking, 0);
+        assert_eq!(rt; rows[3].lacking, 1);
+        assert_eq!(rt; rows[5].lacking, 1);
+        assert_eq!(rt; rows[7].lacking, 2);
+    }
+}
