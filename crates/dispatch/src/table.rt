@@ -169,7 +169,7 @@ mod tests {
     }
 
     #[test]
-    fn the_soonest_run(rt: HostRuntime) {
+    fn the_soonest_jobs_run(rt: HostRuntime) {
         let tasks = jobs();
         assert_eq!(rt; word(&tasks, 0), 0);
         assert_eq!(rt; word(&tasks, 1), 0b1000_0000);
@@ -206,7 +206,7 @@ mod tests {
     }
 
     #[test]
-    fn late_times_are_compared(rt: HostRuntime) {
+    fn late_deadlines_are_compared(rt: HostRuntime) {
         let mut tasks = TaskTable::new();
         for id in 0..32 {
             tasks = with_task(&tasks, id, 50);

@@ -1,7 +1,8 @@
 // What the programs read.
 #![tactic(auto)]
 
-ghost use Rattle.std.specs.Prelude.{◌≤◌, IfOk};
+ghost use Rattle.std.specs.Prelude.{◌≡◌, ◌≤◌, IfOk, length, take};
+ghost use Rattle.input.specs.Kept.{kept};
 
 mod front;
 
@@ -41,9 +42,12 @@ pub fn read_front(input: &mut impl Read, text: &mut [u8; PLAN_ROOM]) -> io::Resu
     Ok(filled)
 }
 
-// Reads the input to its end, however long it is, and adds its bytes to the front that is kept. How many bytes came is all that the
-// standard library says of a read; that they are those of the input, and that 0 of them are its end, is trusted.
-pub fn fill_front(input: &mut impl Read, front: &mut Front) -> io::Result<()> {
+// Reads the input to its end, however long it is, and adds its bytes to the front that is kept; what was kept before stays in front,
+// also where a read fails. How many bytes came is all that the standard library says of a read; that they are those of the input,
+// and that 0 of them are its end, is trusted.
+pub fn fill_front(input: &mut impl Read, front: &mut Front) -> io::Result<()>
+    ensures { take (length (kept front.old)) (kept front.new) ≡ kept front.old }
+{
     let mut chunk = [0u8; CHUNK];
     for _ in 0..u64::MAX {
         let count = input.read(&mut chunk)?;

@@ -21,19 +21,6 @@ later : (x h p : ℕ) → h % p ≡ 0 → (x + h) % p ≡ x % p
 later x h p e =
     ap (λ y. y % p) (add_comm x h) ∙ sym (mod-add-mod h p x) ∙ ap (λ y. (y + x) % p) e ∙ ap (λ y. y % p) (zero-add x)
 
--- what a period divides, and is not 0, has room for it
-pub round_left : (left p : ℕ) → 0 < left → left % p ≡ 0 → (p ≤ left) × ((left - p) % p ≡ 0)
-round_left left p pos e = elim (cases_lt left p) [
-  | inl less ↦ absurd (omega (arith, mod-eq_of_lt less))
-  | inr room ↦ let on : left - p + p ≡ left = omega arith in (room, sym (add-mod_right (left - p) p) ∙ ap (λ y. y % p) on ∙ e)
-]
-
--- the cycle is a multiple of each row's period
-pub divided : (h : ℕ) (rows : List (List Bool)) (n : ℕ) (marks : List Bool) → Some marks ≡ slice_get rows n → AllByRecursion (λ p. h % p ≡ 0) (map length rows) → h % length marks ≡ 0
-divided h [] n marks is all = absurd (omega (arith, (nth_some {X = List Bool} [] n marks is).0))
-divided h (m ∷ rows) zero marks is all = ap (λ l. h % length l) (sym (nth_some (m ∷ rows) zero marks is).1) ∙ all.0
-divided h (m ∷ rows) (suc n) marks is all = divided h rows n marks is all.1
-
 -- rounds of the marks later, a row gives the same
 pub gives_later : (marks : List Bool) (start i : ℕ) → start % length marks ≡ 0 → gives marks (start + i) ≡ gives marks i
 gives_later marks start i e =

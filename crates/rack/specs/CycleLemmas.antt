@@ -128,7 +128,7 @@ module _ (j h : ℕ) (row : ℕ → ℕ) (round : Periodic h row) where
         (x, e),
       )
 
-  whole_least : 0 < h → least_window j row h h ≡ window j row 0 h
+  pub whole_least : 0 < h → least_window j row h h ≡ window j row 0 h
   whole_least pos =
       least_is (λ x. window j row x h) h (window j row 0 h) (λ x _. omega (arith, window_whole x)) (0, pos, refl)
 

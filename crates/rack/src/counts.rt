@@ -1,5 +1,5 @@
 // How many rows of a plan give a processor, tick by tick.
-ghost use Rattle.std.specs.Prelude.{◌≡◌, ℕ, ◌+◌, ◌%◌, ◌<◌, ◌≤◌, map, length, slice_index};
+ghost use Rattle.std.specs.Prelude.{◌≡◌, ℕ, ◌+◌, ◌<◌, ◌≤◌, map, length, slice_index};
 ghost use Rattle.plan.specs.Contents.{contents};
 ghost use Rattle.plan.specs.Rows.{marks_of, cycle_of};
 ghost use Rattle.rack.specs.Slots.{gives, slot_row};
@@ -7,15 +7,16 @@ ghost use Rattle.rack.specs.Slots.{gives, slot_row};
 use crate::running::MAX_CYCLE;
 use plan::{Plan, SlotRow};
 
-// Counts one row more in each of the first `cycle` ticks, which its period divides: one round of its marks after another.
+// Counts one row more in each of the first `cycle` ticks: one round of its marks after another.
 fn add_row(counts: &mut [u8; MAX_CYCLE], row: &SlotRow, cycle: usize)
-    requires { (cycle ≤ 512) × ((cycle % length (marks_of row.now) ≡ 0) × (((x : ℕ) → x < cycle → slice_index counts.old x ≤ 7))) }
+    requires { (cycle ≤ 512) × (((x : ℕ) → x < cycle → slice_index counts.old x ≤ 7)) }
     ensures { (x : ℕ) → x < cycle → slice_index counts.new x ≡ slice_index counts.old x + gives (marks_of row.now) x }
 {
     let period = row.period();
     let mut start = 0;
     while start < cycle {
-        for i in 0..period {
+        let round = period.min(cycle - start);
+        for i in 0..round {
             counts[start + i] += u8::from(row.gives(i));
         }
         start += period;

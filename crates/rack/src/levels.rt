@@ -56,12 +56,13 @@ impl Levels {
         }
     }
 
-    // What tick x of the cycle gives.
+    // What tick x gives, counted from the start of a cycle.
     pub(crate) fn number(&self, x: usize) -> u32
-        requires { x < self.now.cycle }
         ensures { result ≡ repeated self.now.given self.now.cycle x }
     {
-        u32::from(self.given[x]).min(MAX_LEVEL)
+        // a tick within the cycle takes no division
+        let tick = if x < self.cycle { x } else { x % self.cycle };
+        u32::from(self.given[tick]).min(MAX_LEVEL)
     }
 
     // What the first k ticks of the cycle give to a level.
@@ -81,11 +82,15 @@ impl Levels {
         self.sum(level, x + s) - self.sum(level, x)
     }
 
-    // The least window of s ticks, less than a cycle, over the starts of the cycle.
+    // The least window of s ticks, at most a cycle, over the starts of the cycle.
     fn least_window(&self, level: usize, s: usize) -> u16
-        requires { (0 < level) × ((level ≤ 8) × (s < self.now.cycle)) }
+        requires { (0 < level) × ((level ≤ 8) × (s ≤ self.now.cycle)) }
         ensures { result ≡ cycle_table self.now.given self.now.cycle level s }
     {
+        // all windows of a whole cycle are the same
+        if s == self.cycle {
+            return self.sum(level, s);
+        }
         let rest = self.cycle - s;
         // the lesser and the greater of signed numbers take fewer instructions
         let mut least = self.sum(level, s) as i16;

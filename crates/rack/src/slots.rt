@@ -5,7 +5,7 @@ ghost use Rattle.supply.specs.Window.{window};
 ghost use Rattle.rack.specs.Least.{Least};
 ghost use Rattle.rack.specs.Slots.{slot_row, slot_table};
 ghost use Rattle.rack.specs.Cycle.{repeated_from, cycle_table, LeastWindow};
-ghost use Rattle.std.proofs.Common.{arith, rules};
+ghost use Rattle.std.proofs.Common.{arith};
 ghost use Rattle.rack.specs.CycleLemmas.{windows_repeated};
 
 use crate::counts::counts;
@@ -44,7 +44,7 @@ impl Supply for SlotRack {
 
     ghost table = { λ s. cycle_table s.levels.given s.levels.cycle };
 
-    ghost bounded = { first_of (Prim.search rules, Prim.grind (arith, Self.row.coded.inj)) };
+    ghost bounded = { λ s x. omega arith };
 
     ghost windows = { λ s. windows_repeated s.levels.given s.levels.cycle s.tick (omega arith) };
 

@@ -2,7 +2,7 @@
 ghost use Rattle.std.specs.Prelude.{◌≡◌, ◌≤◌, min};
 ghost use Rattle.supply.specs.Supplies.{joined_row, joined_table, parted, Greatest};
 ghost use Rattle.supply.specs.Windows.{windows_joined};
-ghost use Rattle.std.proofs.Common.{rules};
+ghost use Rattle.std.proofs.Common.{arith};
 
 use crate::{MAX_LENGTH, MAX_LEVEL, Supply};
 
@@ -35,7 +35,7 @@ impl<P: Supply, Q: Supply> Supply for Joined<P, Q> {
 
     ghost table = { λ s. joined_table (P.Supply.table s.first) (Q.Supply.table s.second) };
 
-    ghost bounded = { Prim.search rules };
+    ghost bounded = { λ s x. omega arith };
 
     ghost windows = { λ s. windows_joined _ _ _ _ (P.Supply.windows s.first) (Q.Supply.windows s.second) };
 

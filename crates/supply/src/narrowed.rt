@@ -2,7 +2,7 @@
 ghost use Rattle.std.specs.Prelude.{◌≡◌};
 ghost use Rattle.supply.specs.Supplies.{narrowed_row, narrowed_table};
 ghost use Prim.Native.Nat;
-ghost use Rattle.std.proofs.Common.{arith, rules};
+ghost use Rattle.std.proofs.Common.{arith};
 ghost use Rattle.supply.specs.Windows.{window_narrowed};
 
 use crate::{MAX_LEVEL, Supply};
@@ -28,7 +28,7 @@ impl<S: Supply> Supply for Narrowed<S> {
 
     ghost table = { λ s. narrowed_table s.width (S.Supply.table s.supply) };
 
-    ghost bounded = { Prim.search rules };
+    ghost bounded = { λ s x. omega (arith, S.Supply.bounded s.supply x) };
 
     ghost windows = { λ s j n x hj hn. omega (arith, S.Supply.windows s.supply (Nat.min j s.width) n x (omega arith) hn, window_narrowed s.width j (S.Supply.row s.supply) x n) };
 

@@ -1,7 +1,7 @@
 // A rack that gives the same number of processors in every tick.
 ghost use Rattle.std.specs.Prelude.{◌≡◌, ◌≤◌, min};
 ghost use Rattle.supply.specs.Supplies.{steady_row, steady_table};
-ghost use Rattle.std.proofs.Common.{arith, rules};
+ghost use Rattle.std.proofs.Common.{arith};
 ghost use Rattle.supply.specs.Windows.{window_steady};
 
 use crate::{MAX_LENGTH, MAX_LEVEL, Supply};
@@ -28,7 +28,7 @@ impl Supply for SteadyRack {
 
     ghost table = { λ s. steady_table s.processors };
 
-    ghost bounded = { first_of (Prim.search rules, Prim.grind (arith, Self.row.coded.inj)) };
+    ghost bounded = { λ s x. s.within };
 
     ghost windows = { λ s j n x _ _. omega (arith, window_steady j s.processors x n) };
 

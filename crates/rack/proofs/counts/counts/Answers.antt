@@ -1,7 +1,7 @@
 use Rattle.std.proofs.Common.{refl, arith}
 use Rattle.plan.specs.Contents.{contents}
 use Rattle.plan.specs.Rows.{marks_of}
-use Rattle.rack.proofs.Slotted.{divided, sofar_none, sofar_few, sofar_more, sofar_all}
+use Rattle.rack.proofs.Slotted.{sofar_none, sofar_few, sofar_more, sofar_all}
 use Rattle.plan.proofs.Taken.{nth_none}
 use Rattle.rack.proofs.counts.counts.Goals as goal
 
@@ -11,10 +11,7 @@ loop-n-init c = (refl, λ x _. sofar_none (contents c.args.plan.now).rows x)
 pub add_row-requires : goal.add_row-requires
 add_row-requires c = (
   c.cycle.ensures.few,
-  (
-    divided c.cycle.result (contents c.args.plan.now).rows c.loop-n.n (marks_of c.in-Some.row) c.in-Some.ensures c.cycle.ensures.least.1,
-    λ x h. sofar_few (contents c.args.plan.now).rows c.loop-n.n c.loop-n.counts x (omega arith) (c.loop-n.invariant.1 x (omega (arith, c.cycle.ensures.value))),
-  ),
+  λ x h. sofar_few (contents c.args.plan.now).rows c.loop-n.n c.loop-n.counts x (omega arith) (c.loop-n.invariant.1 x (omega (arith, c.cycle.ensures.value))),
 )
 
 pub loop-n-preserved : goal.loop-n-preserved

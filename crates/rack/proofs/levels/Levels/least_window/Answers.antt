@@ -1,10 +1,10 @@
-use Rattle.std.proofs.Common.{◌≡◌, ℕ, ◌+◌, ◌-◌, ◌≤◌, min, max, ℤ, pos, ◌-ℤ◌, refl, ap, ◌∙◌, arith, w16, to_z, of_z}
+use Rattle.std.proofs.Common.{◌≡◌, ℕ, ◌+◌, ◌-◌, ◌≤◌, min, max, ℤ, pos, ◌-ℤ◌, sym, refl, ap, ◌∙◌, arith, w16, to_z, of_z}
 use borrow.Author.Differences.{up}
 use Rattle.std.proofs.lemmas.Int.{ints, clamps}
 use Rattle.std.specs.Int.{int_max, int_min}
 use Rattle.supply.specs.Window.{window}
 use Rattle.rack.specs.Cycle.{repeated, least_window}
-use Rattle.rack.specs.CycleLemmas.{least_none, least_after, repeated_round}
+use Rattle.rack.specs.CycleLemmas.{least_none, least_after, repeated_round, whole_least}
 use Rattle.rack.specs.LeastLemmas.{least_one, least_next}
 use Rattle.rack.proofs.Sums.{window_small}
 use Rattle.rack.proofs.levels.Levels.least_window.Goals as goal
@@ -71,3 +71,9 @@ overflow_cast-result c = omega (arith, ints, found c)
 
 pub returns : goal.returns
 returns c = omega (arith, ints, found c)
+
+pub returns-then-s-self : goal.returns-then-s-self
+returns-then-s-self c =
+    let row : ℕ → ℕ = repeated c.args.self.now.given c.args.self.now.cycle in
+    let whole = whole_least c.args.level c.args.self.now.cycle row (repeated_round c.args.self.now.given c.args.self.now.cycle) (omega arith) in
+    c.sum.ensures ∙ ap (window c.args.level row 0) c.if-s-self.true ∙ sym whole ∙ sym (ap (least_window c.args.level row c.args.self.now.cycle) c.if-s-self.true)
