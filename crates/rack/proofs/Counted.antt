@@ -14,6 +14,9 @@ pub record Added (before now : List ℕ) (f : ℕ → ℕ) (a x : ℕ) : Type 0 
   pub left : (k : ℕ) → x ≤ k → get_or now k 0 ≡ get_or before k 0
   pub long : length now ≡ length before
 
+pub added_none : (l : List ℕ) (f : ℕ → ℕ) (a : ℕ) → Added l l f a a
+added_none l f a = record { under = λ k h. refl; done = λ k le h. absurd (omega arith); left = λ k h. refl; long = refl }
+
 pub added_more : (before now : List ℕ) (f : ℕ → ℕ) (a x v : ℕ) → Added before now f a x → a ≤ x → x < length now → v ≡ f x → Added before (set now x (get_or now x 0 + v)) f a (x + 1)
 added_more before now f a x v so le inside e = record {
   under = λ k h. get_or-set_other now x k (get_or now x 0 + v) 0 (λ e. omega arith) ∙ so.under k h;

@@ -1,5 +1,5 @@
 // How many rows of a plan give a processor, tick by tick.
-ghost use Rattle.std.specs.Prelude.{◌≡◌, ℕ, ◌+◌, ◌<◌, ◌≤◌, map, length, slice_index};
+ghost use Rattle.std.specs.Prelude.{◌≡◌, ℕ, ◌+◌, ◌%◌, ◌<◌, ◌≤◌, map, length, slice_index};
 ghost use Rattle.plan.specs.Contents.{contents};
 ghost use Rattle.plan.specs.Rows.{marks_of, cycle_of};
 ghost use Rattle.rack.specs.Slots.{gives, slot_row};
@@ -7,20 +7,32 @@ ghost use Rattle.rack.specs.Slots.{gives, slot_row};
 use crate::running::MAX_CYCLE;
 use plan::{Plan, SlotRow};
 
-// Counts one row more in each of the first `cycle` ticks: one round of its marks after another.
+// Counts one row more in `count` ticks from tick `start` on, where a round of its marks begins.
+fn add_round(counts: &mut [u8; MAX_CYCLE], row: &SlotRow, start: usize, count: usize)
+    requires within { start + count ≤ 512 }
+    requires begins { start % length (marks_of row.now) ≡ 0 }
+    requires few { (x : ℕ) → start ≤ x → x < start + count → slice_index counts.old x ≤ 7 }
+    ensures counted { (x : ℕ) → start ≤ x → x < start + count → slice_index counts.new x ≡ slice_index counts.old x + gives (marks_of row.now) x }
+    ensures before { (x : ℕ) → x < start → slice_index counts.new x ≡ slice_index counts.old x }
+    ensures behind { (x : ℕ) → start + count ≤ x → slice_index counts.new x ≡ slice_index counts.old x }
+{
+    for i in 0..count {
+        counts[start + i] += u8::from(row.gives(i));
+    }
+}
+
+// Counts one row more in each of the first `cycle` ticks: one round of its marks after another, the last as far as the cycle goes.
 fn add_row(counts: &mut [u8; MAX_CYCLE], row: &SlotRow, cycle: usize)
     requires { (cycle ≤ 512) × (((x : ℕ) → x < cycle → slice_index counts.old x ≤ 7)) }
     ensures { (x : ℕ) → x < cycle → slice_index counts.new x ≡ slice_index counts.old x + gives (marks_of row.now) x }
 {
     let period = row.period();
     let mut start = 0;
-    while start < cycle {
-        let round = period.min(cycle - start);
-        for i in 0..round {
-            counts[start + i] += u8::from(row.gives(i));
-        }
+    while start + period <= cycle {
+        add_round(counts, row, start, period);
         start += period;
     }
+    add_round(counts, row, start, cycle - start);
 }
 
 // The number of rows that give, in each tick of the cycle.
