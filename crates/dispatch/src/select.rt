@@ -1,4 +1,5 @@
-// Which jobs run in a tick: as many as there are processors, those that have to be done the soonest.
+// Which jobs run in a tick: as many as there are processors, those that have to be done the soonest. This is the plain way, which
+// looks at all rows again and again; the dispatcher keeps its jobs in order (jobs.rt), and both have the same word proved of them.
 ghost use Rattle.std.specs.Prelude.{◌≡◌, ℕ, ◌<◌, true, length, get_or, ◌==◌, slice_index, slice_index_or};
 ghost use Rattle.schedule.specs.State.{blank};
 ghost use Rattle.schedule.specs.Order.{unfinished, word, names, spent};
