@@ -1,6 +1,10 @@
 -- The parts of a text, from its first cut on. Assumes nothing.
-use Rattle.std.proofs.Common.{◌≡◌, ℕ, suc, ◌+◌, ◌<◌, ◌≤◌, Bool, true, false, cond, not, eqb, List, [], ◌∷◌, length, take, drop, refl, ap, add-one, one-add, arith}
+use Rattle.std.proofs.Common.{◌≡◌, ℕ, suc, ◌+◌, ◌<◌, ◌≤◌, Bool, true, false, cond, not, eqb, ltb, List, [], ◌∷◌, length, take, drop, Option, Some, None, refl, ap, add-one, one-add, arith}
+use Rattle.std.specs.Option.{unwrap_or}
 use Rattle.std.proofs.lemmas.Bool.{cond_both}
+use Rattle.std.proofs.lemmas.Bool.Decides.{nat_tests}
+use Rattle.std.proofs.lemmas.List.{length-take}
+use Rattle.std.proofs.lemmas.List.Folds.{length-prefix_len}
 use Rattle.text.specs.Bytes.{before, onto, parts}
 
 none_step : (t : Bool) (x : ℕ) (xs : List ℕ) (n : ℕ) (ps : List (List ℕ)) → suc (length xs) ≤ cond (not t) (1 + n) 0 → (length xs ≤ n → ps ≡ xs ∷ []) → cond t ([] ∷ ps) (onto x ps) ≡ (x ∷ xs) ∷ []
@@ -32,3 +36,13 @@ unfolding parts
 parts_some b [] = omega arith
 parts_some b (x ∷ xs) =
     cond_both (eqb x b) ([] ∷ parts b xs) (onto x (parts b xs)) (λ ps. 1 ≤ length ps) (λ _. omega arith) (λ _. onto_some x (parts b xs) (parts_some b xs))
+
+-- ---- what a search for the first b finds
+
+pub none_before : (b : ℕ) (s : List ℕ) → cond (ltb (before b s) (length s)) (Some (before b s)) None ≡ None → length s ≤ before b s
+none_before b s e = grind (arith, nat_tests)
+
+pub before_or_all : (b : ℕ) (s : List ℕ) (found : Option ℕ) → found ≡ cond (ltb (before b s) (length s)) (Some (before b s)) None → unwrap_or found (length s) ≡ before b s
+before_or_all b s found e =
+    let few : before b s ≤ length s = omega (arith, length-prefix_len (λ x. not (eqb x b)) s, length-take (before b s) s) in
+    grind (arith, nat_tests)

@@ -15,23 +15,15 @@ const MAX_DIGITS_32: usize = 10;
 pub fn find(s: &[u8], b: u8) -> usize
     ensures { result ≡ before b s.now }
 {
-    for (i, x) in s.iter().enumerate() {
-        if *x == b {
-            return i;
-        }
-    }
-    s.len()
+    s.iter().position(|x| *x == b).unwrap_or(s.len())
 }
 
 // The bytes before the first `b` and those behind it; none, where there is no `b`.
 pub fn cut(s: &[u8], b: u8) -> Option<(&[u8], &[u8])>
     ensures { Cut b s.now result }
 {
-    let n = find(s, b);
-    if n >= s.len() {
-        return None;
-    }
-    Some((&s[0..n], &s[n + 1..]))
+    let n = s.iter().position(|x| *x == b)?;
+    Some((&s[..n], &s[n + 1..]))
 }
 
 // The number that up to ten digits write; none, where a byte is no digit.
@@ -44,7 +36,7 @@ fn value(s: &[u8]) -> Option<u64>
         if !b.is_ascii_digit() {
             return None;
         }
-        n = n * 10 + (*b - b'0') as u64;
+        n = n * 10 + u64::from(*b - b'0');
     }
     Some(n)
 }
@@ -54,17 +46,11 @@ fn decimal_up_to(s: &[u8], width: usize, limit: u32) -> Option<u32>
     requires { width ≤ 10 }
     ensures { result ≡ number_up_to width limit s.now }
 {
-    if s.is_empty() || s.len() > width {
-        return None;
+    match s {
+        [] | [b'0', _, ..] => None,
+        _ if s.len() > width => None,
+        _ => u32::try_from(value(s)?).ok().filter(|n| *n <= limit),
     }
-    if s.len() > 1 && s[0] == b'0' {
-        return None;
-    }
-    let n = value(s)?;
-    if n > limit as u64 {
-        return None;
-    }
-    Some(n as u32)
 }
 
 // The number that `s` writes in decimal: one to five digits, no zero in front unless it is 0, at most 65,535.

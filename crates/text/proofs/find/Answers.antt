@@ -1,16 +1,11 @@
-use Rattle.std.proofs.Common.{not, eqb, ap, arith}
-use Rattle.std.proofs.lemmas.List.Sums.{prefix_len-drop_yes, prefix_len-drop_no, prefix_len-drop_all}
-use Rattle.std.proofs.lemmas.Bool.{eq-eqb, ne_eqb}
+use Rattle.std.proofs.Common.{◌≡◌, cond, eqb, ltb, length, Some, None, rules, tests, ◌∙◌}
+use Rattle.std.proofs.lemmas.Iterator.{YieldsList-from_slice}
+use Rattle.std.proofs.lemmas.Iterator.Search.{position_from_yields_List}
+use Rattle.text.specs.Bytes.{before}
+use Rattle.text.proofs.Parts.{before_or_all}
 use Rattle.text.proofs.find.Goals as goal
-
-pub returns-then-x-b : goal.returns-then-x-b
-returns-then-x-b c =
-    omega (arith, c.loop-i.invariant, prefix_len-drop_no (λ x. not (eqb x c.args.b)) c.args.s.now c.loop-i.i 0 c.loop-i-test.true (ap not (eq-eqb _ _ c.if-x-b.true)))
-
-pub loop-i-preserved : goal.loop-i-preserved
-loop-i-preserved c =
-    omega (arith, c.loop-i.invariant, prefix_len-drop_yes (λ x. not (eqb x c.args.b)) c.args.s.now c.loop-i.i 0 c.loop-i-test.true (ap not (ne_eqb _ _ c.if-x-b.false)))
 
 pub returns : goal.returns
 returns c =
-    omega (arith, c.loop-i.invariant, prefix_len-drop_all (λ x. not (eqb x c.args.b)) c.args.s.now c.loop-i.i c.loop-i-test.false)
+    let found : c.position.result ≡ cond (ltb (before c.args.b c.args.s.now) (length c.args.s.now)) (Some (before c.args.b c.args.s.now)) None = position_from_yields_List (λ x. eqb x c.args.b) _ _ c.position.result c.position.ensures.ran (YieldsList-from_slice _ c.iter.ensures.rest) (λ x b q k. search (rules, tests)) in
+    c.unwrap_or.ensures ∙ before_or_all c.args.b c.args.s.now c.position.result found
