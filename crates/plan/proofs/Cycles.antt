@@ -1,8 +1,9 @@
 -- The cycle of rows: the search for it, and one row more. Assumes nothing.
-use Rattle.std.proofs.Common.{◌≡◌, ℕ, zero, suc, ◌+◌, ◌-◌, ◌*◌, ◌/◌, ◌%◌, ◌<◌, ◌≤◌, Bool, true, false, ◌&&◌, eqb, ◌⊎◌, List, [], ◌∷◌, ◌++◌, map, length, sym, refl, ap, ◌∙◌, inl, inr, mod-lt, mod-eq_of_lt, div-add-mod', arith}
+use Rattle.std.proofs.Common.{◌≡◌, ℕ, zero, suc, ◌+◌, ◌-◌, ◌*◌, ◌/◌, ◌%◌, ◌<◌, ◌≤◌, Bool, true, false, ◌&&◌, eqb, ◌⊎◌, List, [], ◌∷◌, ◌++◌, map, length, Some, None, sym, refl, ap, ◌∙◌, inl, inr, mod-lt, mod-eq_of_lt, div-add-mod', arith}
 use native.Mathlib.Nat.{mod-mod_of_dvd, dvd_of_mod-eq-zero, zero-mod, add-mul-mod_self_right}
 use Rattle.std.proofs.lemmas.List.{map_push}
-use Rattle.std.proofs.lemmas.Bool.{eq-eqb, ne_eqb, and_left, and_right, and_parts, and_from, eqb-true, cases_Bool, cases_eq, cases_lt, both_ways}
+use Rattle.std.proofs.lemmas.Bool.{eq-eqb, ne_eqb, and_left, and_right, and_parts, and_from, eqb-true, cases_Bool, cases_eq, cases_lt, both_ways, le-leb}
+use Rattle.text.specs.Decimal.{at_most}
 use Rattle.plan.specs.declared.row.SlotRow.{SlotRow}
 use Rattle.plan.specs.Rows.{marks_of, first_from, divided_by, cycle_of, periods_of, LeastCommon, CycleLaw}
 use Rattle.std.specs.List.{AllByRecursion}
@@ -152,10 +153,13 @@ module _ (rows : List SlotRow) (r : SlotRow) (cycle : ℕ) (is : cycle ≡ cycle
         ]
       ]
 
-  pub at_multiple : (h : ℕ) → 1 ≤ h → h ≤ 512 → h % cycle ≡ 0 → h % length (marks_of r) ≡ 0 → Below rows r h → h ≡ cycle_of (periods_of (rows ++ r ∷ []))
+  pub at_multiple : (h : ℕ) → 1 ≤ h → h ≤ 512 → h % cycle ≡ 0 → h % length (marks_of r) ≡ 0 → Below rows r h → Some h ≡ at_most 512 (Some (cycle_of (periods_of (rows ++ r ∷ []))))
   at_multiple h some high whole here below =
       let all = divided_row rows r h ∙ and_from (divided_by (periods_of rows) h) _ (all_divided (periods_of rows) h (all_multiple (periods_of rows) cycle h least.1 whole)) (eq-eqb _ 0 here) in
-      sym (first_is (divided_by (periods_of (rows ++ r ∷ []))) 512 1 h some (omega arith) all below)
+      let found : cycle_of (periods_of (rows ++ r ∷ [])) ≡ h = first_is (divided_by (periods_of (rows ++ r ∷ []))) 512 1 h some (omega arith) all below in
+      rw found (rw (le-leb h 512 high) refl)
 
-  pub no_multiple : (h : ℕ) → 512 < h → Below rows r h → 513 ≡ cycle_of (periods_of (rows ++ r ∷ []))
-  no_multiple h past below = sym (first_none (divided_by (periods_of (rows ++ r ∷ []))) 512 1 (λ k low high. below k low (omega arith)))
+  pub no_multiple : (h : ℕ) → 512 < h → Below rows r h → None ≡ at_most 512 (Some (cycle_of (periods_of (rows ++ r ∷ []))))
+  no_multiple h past below =
+      let none : cycle_of (periods_of (rows ++ r ∷ [])) ≡ 513 = first_none (divided_by (periods_of (rows ++ r ∷ []))) 512 1 (λ k low high. below k low (omega arith)) in
+      rw none refl

@@ -1,9 +1,11 @@
 -- Numbers that stand once: there are no more of them below n than n. Assumes nothing.
-use Rattle.std.proofs.Common.{◌≡◌, ℕ, zero, suc, ◌+◌, ◌<◌, ◌≤◌, true, false, cond, not, ◌||◌, eqb, List, [], ◌∷◌, ◌++◌, map, length, get_or, take, drop, set, sym, refl, ap, ◌∙◌, inl, inr, arith}
-use Rattle.std.proofs.lemmas.List.{at_drop_more, length_push, length-map, length-take, take_more_set, map_push}
+use Rattle.std.proofs.Common.{◌≡◌, ℕ, zero, suc, ◌<◌, ◌≤◌, true, false, cond, not, ◌||◌, eqb, ltb, List, [], ◌∷◌, ◌++◌, map, length, Ok, Err, Result, OnOk, sym, refl, ap, ◌∙◌, inl, inr, arith}
+use Rattle.std.proofs.lemmas.List.{length_push, length-map, map_push}
+use Rattle.std.specs.Result.{is_ok}
 use Rattle.std.proofs.ByRecursion.{All-push}
-use Rattle.std.proofs.lemmas.Bool.{eqb-true, eqb-false, ne_eqb, cases_Bool, and_parts, and_from, or_parts, or_from, not-true, not_from_false}
-use Rattle.std.specs.List.{AllByRecursion}
+use Rattle.std.proofs.lemmas.Bool.{eqb-true, eqb-false, ne_eqb, cases_Bool, and_parts, and_from, or_parts, or_from, not-true, not_from_false, lt-ltb, both_ways}
+use Rattle.std.specs.List.{AllByRecursion, list_any}
+use Rattle.fixed.specs.Listed.{listed}
 use Rattle.task.specs.declared.card.Card.{Card}
 use Rattle.task.specs.Task.{task_of}
 use Rattle.plan.specs.declared.cards.CardList.{CardList}
@@ -103,28 +105,24 @@ room cards y d small free =
 
 -- one card more, of a number that is free
 module _ (l : CardList) (k : Card) (no-task : has k.id (map (λ t. t.id) (tasks_of l)) ≡ false) where
-  free : has k.id (ids_in l.count l.cards) ≡ false
-  free = ap (has k.id) (sym (ids_same (take l.count l.cards))) ∙ no-task
+  free : has k.id (ids_in (listed l.cards)) ≡ false
+  free = ap (has k.id) (sym (ids_same (listed l.cards))) ∙ no-task
 
-  pub room_left : l.count < 32
-  room_left =
-      omega (arith, room (take l.count l.cards) k.id l.numbered k.numbered free, length-take l.count l.cards, l.full, l.few)
+  room_left : length (listed l.cards) < 32
+  room_left = room (listed l.cards) k.id l.numbered k.numbered free
 
-  inside : l.count < length l.cards
-  inside = omega (arith, room_left, l.full)
+  pub added : {E : Type 0} (r : Result (Unit {0}) E) → is_ok r ≡ ltb (length (listed l.cards)) 32 → is_ok r ≡ true
+  added r fits = fits ∙ lt-ltb _ 32 room_left
 
-  pub still_distinct : distinct (ids_in (l.count + 1) (set l.cards l.count k)) ≡ true
+  still_distinct : distinct (ids_in (listed l.cards ++ k ∷ [])) ≡ true
   still_distinct =
-      ap (λ cs. distinct (map (λ c. c.id) cs)) (take_more_set l.cards l.count k inside)
-      ∙ ap distinct (map_push (λ c. c.id) (take l.count l.cards) k)
-      ∙ distinct_push (ids_in l.count l.cards) k.id l.numbered free
+      ap distinct (map_push (λ c. c.id) (listed l.cards) k) ∙ distinct_push (ids_in (listed l.cards)) k.id l.numbered free
 
-  pub one_task_more : map task_of (take (l.count + 1) (set l.cards l.count k)) ≡ tasks_of l ++ task_of k ∷ []
-  one_task_more =
-      ap (map task_of) (take_more_set l.cards l.count k inside) ∙ map_push task_of (take l.count l.cards) k
+  pub distinct_with : {E : Type 0} (r : Result (Unit {0}) E) (cards : List Card) → is_ok r ≡ ltb (length (listed l.cards)) 32 → OnOk r (cards ≡ listed l.cards ++ k ∷ []) → distinct (ids_in cards) ≡ true
+  distinct_with (Ok t) cards fits more = ap (λ cs. distinct (ids_in cs)) more ∙ still_distinct
+  distinct_with (Err e) cards fits more = absurd (both_ways _ (sym (added (Err e) fits)) refl)
 
-module _ (cards : List Card) (i n : ℕ) (k : Card) (inside : i < length cards) (is : k ≡ get_or cards i k) (so : has n (map (λ c. c.id) (drop i cards)) ≡ has n (map (λ c. c.id) cards)) where
-  pub next_number : has n (map (λ c. c.id) cards) ≡ (eqb n k.id || has n (map (λ c. c.id) (drop (i + 1) cards)))
-  next_number =
-      sym so ∙ at_drop_more (λ l. has n (map (λ c. c.id) l)) cards i k inside
-      ∙ ap (λ x. eqb n x.id || has n (map (λ c. c.id) (drop (i + 1) cards))) (sym is)
+-- whether one of the cards has a number
+pub any_number : (n : ℕ) (cards : List Card) → list_any (λ c. eqb n c.id) cards ≡ has n (map (λ t. t.id) (map task_of cards))
+any_number n [] = refl
+any_number n (c ∷ cards) = ap (λ b. eqb n c.id || b) (any_number n cards)

@@ -1,5 +1,4 @@
 pub mod Lines
-pub mod Marked
 pub mod Cycles
 pub mod Distinct
 pub mod Taken

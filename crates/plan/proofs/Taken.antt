@@ -1,20 +1,6 @@
--- The elements of an array that are in use, one by one. Assumes nothing.
-use Rattle.std.proofs.Common.{◌≡◌, ℕ, zero, suc, ◌<◌, ◌≤◌, List, [], ◌∷◌, map, length, get_or, take, Some, None, sym, ap, ◌∙◌, arith}
-use Rattle.std.proofs.lemmas.List.{length-map, length-take, get_or-map, get_or-take}
-use Rattle.std.proofs.lemmas.Option.{slice_get-get_or, slice_get_past}
+-- What a look at a place tells of a list. Assumes nothing.
+use Rattle.std.proofs.Common.{◌≡◌, ℕ, zero, suc, ◌<◌, ◌≤◌, List, [], ◌∷◌, length, get_or, Some, None, arith}
 use Rattle.std.specs.List.{slice_get}
-
-module _ {X Y : Type 0} (f : X → Y) (xs : List X) (n i : ℕ) where
-  pub nth_used : (d : X) → i < n → n ≤ length xs → Some (f (get_or xs i d)) ≡ slice_get (map f (take n xs)) i
-  nth_used d inside fits =
-      let long : i < length (take n xs) = simp length-take (omega arith) in
-      let same = get_or-map f (take n xs) i d (f d) long ∙ ap f (get_or-take n xs i d inside) in
-      sym (slice_get-get_or (map f (take n xs)) i (f d) (simp length-map long) ∙ ap Some same)
-
-  pub nth_unused : n ≤ i → None ≡ slice_get (map f (take n xs)) i
-  nth_unused past = sym (slice_get_past (map f (take n xs)) i (simp (length-map, length-take) (omega arith)))
-
--- ---- what a look at place n tells of a list
 
 pub nth_none : {X : Type 0} (xs : List X) (n : ℕ) → None ≡ slice_get xs n → length xs ≤ n
 nth_none [] n e = omega arith

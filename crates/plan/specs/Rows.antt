@@ -1,12 +1,13 @@
 -- Rows of the slot table, their cycle, and numbers that stand once. Assumes nothing.
-use Rattle.std.specs.Prelude.{◌≡◌, ℕ, zero, suc, ◌%◌, ◌<◌, ◌≤◌, Bool, true, false, cond, not, ◌&&◌, ◌||◌, ◌⊎◌, List, [], ◌∷◌, map, length, take, ◌==◌}
+use Rattle.std.specs.Prelude.{◌≡◌, ℕ, zero, suc, ◌%◌, ◌<◌, ◌≤◌, Bool, true, false, cond, not, ◌&&◌, ◌||◌, ◌⊎◌, List, [], ◌∷◌, map, length, ◌==◌}
 use Rattle.std.specs.List.{AllByRecursion}
+use Rattle.fixed.specs.Listed.{listed}
 use Rattle.plan.specs.declared.row.SlotRow.{SlotRow}
 use Rattle.task.specs.declared.card.Card.{Card}
 
 -- a row by its marks: its period is how many there are
 abbrev pub marks_of : SlotRow → List Bool
-marks_of r = take r.period r.marks
+marks_of r = listed r.marks
 
 -- the first of h, h + 1, .. that passes, of n that are tried; h + n, where none does
 unfoldable pub first_from : (ℕ → Bool) → ℕ → ℕ → ℕ
@@ -42,6 +43,6 @@ distinct (x ∷ xs) = not (has x xs) && distinct xs
 abbrev pub periods_of : List SlotRow → List ℕ
 periods_of rows = map (λ r. length (marks_of r)) rows
 
--- the numbers of the first n cards
-abbrev pub ids_in : ℕ → List Card → List ℕ
-ids_in n cards = map (λ c. c.id) (take n cards)
+-- the numbers of the cards
+abbrev pub ids_in : List Card → List ℕ
+ids_in cards = map (λ c. c.id) cards

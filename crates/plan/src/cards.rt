@@ -1,6 +1,8 @@
-ghost use Rattle.std.specs.Prelude.{◌≡◌, ◌≤◌, true, length};
+ghost use Rattle.std.specs.Prelude.{◌≡◌, true};
+ghost use Rattle.fixed.specs.Listed.{listed};
 ghost use Rattle.plan.specs.Rows.{distinct, ids_in};
 
+use fixed::FixedList;
 use task::Card;
 
 mod filling;
@@ -8,9 +10,6 @@ mod filling;
 // Up to 32 cards of distinct numbers, in the order of their lines.
 #[derive(Clone, Copy)]
 pub(crate) struct CardList {
-    cards: [Card; 32],
-    count: usize,
-    ghost full: { length cards ≡ 32 },
-    ghost few: { count ≤ 32 },
-    ghost numbered: { distinct (ids_in count cards) ≡ true },
+    cards: FixedList<Card, 32>,
+    ghost numbered: { distinct (ids_in (listed cards)) ≡ true },
 }

@@ -53,7 +53,7 @@ impl Draft {
     {
         let n = number.value()?;
         let p = period.value()?;
-        if n as usize != self.table.count() || n >= ROWS || self.cards.count() > 0 {
+        if n as usize != self.table.rows().len() || n >= ROWS || !self.cards.cards().is_empty() {
             return Err(number.fault(Cause::RowNumber));
         }
         if p < 1 || p > MAX_MARKS {
@@ -66,10 +66,9 @@ impl Draft {
         let Some(row) = SlotRow::new(bytes) else {
             return Err(marks.fault(Cause::RowMarks));
         };
-        if !self.table.push(row) {
-            return Err(period.fault(Cause::CycleTooLong));
-        }
-        Ok(())
+        self.table
+            .push(row)
+            .ok_or(period.fault(Cause::CycleTooLong))
     }
 
     fn take_task(
@@ -85,7 +84,7 @@ impl Draft {
         let c = run.value()?;
         let t = period.value()?;
         let d = deadline.value()?;
-        if self.table.count() == 0 {
+        if self.table.rows().is_empty() {
             return Err(Fault {
                 cause: Cause::NoRow,
                 line: number.line(),
@@ -105,7 +104,6 @@ impl Draft {
         let Some(card) = Card::new(id, c, t, d) else {
             return Err(run.fault(Cause::TaskTimes));
         };
-        let _ = self.cards.push(card);
-        Ok(())
+        self.cards.push(card).ok_or(number.fault(Cause::TaskNumber))
     }
 }

@@ -1,4 +1,5 @@
-ghost use Rattle.std.specs.Prelude.{◌≤◌};
+ghost use Rattle.std.specs.Prelude.{◌≤◌, length};
+ghost use Rattle.fixed.specs.Listed.{listed};
 
 use crate::cards::CardList;
 use crate::table::SlotTable;
@@ -10,5 +11,5 @@ mod access;
 pub struct Plan {
     table: SlotTable,
     cards: CardList,
-    ghost some: { 1 ≤ table.count },
+    ghost some: { 1 ≤ length (listed table.rows) },
 }

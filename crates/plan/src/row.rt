@@ -1,13 +1,15 @@
-ghost use Rattle.std.specs.Prelude.{◌≡◌, ◌≤◌, length};
+ghost use Rattle.std.specs.Prelude.{◌≤◌, length};
+ghost use Rattle.fixed.specs.Listed.{listed};
+
+use fixed::FixedList;
 
 mod marks;
 
-// A row of the slot table: it gives a processor in tick x where its mark at x mod its period is set.
+pub(crate) const MAX_MARKS: usize = 64;
+
+// A row of the slot table: it gives a processor in tick x where its mark at x mod its period is set. Its period is how many marks there are.
 #[derive(Clone, Copy)]
 pub struct SlotRow {
-    period: usize,
-    marks: [bool; 64],
-    ghost some: { 1 ≤ period },
-    ghost few: { period ≤ 64 },
-    ghost full: { length marks ≡ 64 },
+    marks: FixedList<bool, MAX_MARKS>,
+    ghost some: { 1 ≤ length (listed marks) },
 }

@@ -1,18 +1,19 @@
-ghost use Rattle.std.specs.Prelude.{◌≡◌, ◌≤◌, length, take};
+ghost use Rattle.std.specs.Prelude.{◌≡◌, ◌≤◌};
+ghost use Rattle.fixed.specs.Listed.{listed};
 ghost use Rattle.plan.specs.Rows.{cycle_of, periods_of};
 
 use crate::row::SlotRow;
+use fixed::FixedList;
 
 mod filling;
+
+pub(crate) const ROWS: usize = 8;
 
 // Up to eight rows, and the cycle after which they repeat together: the least common multiple of their periods.
 #[derive(Clone, Copy)]
 pub(crate) struct SlotTable {
-    rows: [SlotRow; 8],
-    count: usize,
+    rows: FixedList<SlotRow, ROWS>,
     cycle: usize,
-    ghost full: { length rows ≡ 8 },
-    ghost few: { count ≤ 8 },
-    ghost repeats: { cycle ≡ cycle_of (periods_of (take count rows)) },
+    ghost repeats: { cycle ≡ cycle_of (periods_of (listed rows)) },
     ghost short: { cycle ≤ 512 },
 }

@@ -1,11 +1,10 @@
-ghost use Rattle.std.specs.Prelude.{◌≡◌, ◌≤◌, not, [], ◌∷◌, ◌++◌, map, length, if◌then◌else◌};
-ghost use Rattle.std.specs.Option.{option_map};
-ghost use Rattle.std.specs.List.{slice_get};
+ghost use Rattle.std.specs.Prelude.{◌≡◌, ◌≤◌, not, [], ◌∷◌, ◌++◌, map, length, if◌then◌else◌, is_some};
 ghost use Rattle.task.specs.Task.{task_of};
 ghost use Rattle.plan.specs.Rows.{has as among};
 ghost use Rattle.plan.specs.Lists.{tasks_of};
 
 use super::CardList;
+use fixed::FixedList;
 use task::Card;
 
 impl CardList {
@@ -14,59 +13,33 @@ impl CardList {
         ensures { tasks_of result ≡ [] }
     {
         CardList {
-            cards: [Card::smallest(); 32],
-            count: 0,
+            cards: FixedList::filled_with(Card::smallest()),
         }
     }
 
-    // How many cards there are.
-    pub(crate) fn count(&self) -> usize
-        ensures value { result ≡ length (tasks_of self.now) }
-        ensures few { result ≤ 32 }
+    // The cards in the order of their lines.
+    pub(crate) fn cards(&self) -> &[Card]
+        ensures value { map task_of result.now ≡ tasks_of self.now }
+        ensures few { length result.now ≤ 32 }
     {
-        self.count
-    }
-
-    // Card n, counted from 0.
-    pub(crate) fn card(&self, n: usize) -> Option<Card>
-        ensures { option_map task_of result ≡ slice_get (tasks_of self.now) n }
-    {
-        if n < self.count {
-            Some(self.cards[n])
-        } else {
-            None
-        }
+        self.cards.as_slice()
     }
 
     // Whether a card has this number.
     pub(crate) fn has(&self, id: u32) -> bool
         ensures { result ≡ among id (map (λ k. k.id) (tasks_of self.now)) }
     {
-        numbered(&self.cards[0..self.count], id)
+        self.cards().iter().any(|card| id == card.id())
     }
 
     // Adds a card, unless its number is taken.
-    pub(crate) fn push(&mut self, card: Card) -> bool
-        ensures value { result ≡ not (among card.id (map (λ k. k.id) (tasks_of self.old))) }
-        ensures after { tasks_of self.new ≡ (if result then tasks_of self.old ++ task_of card ∷ [] else tasks_of self.old) }
+    pub(crate) fn push(&mut self, card: Card) -> Option<()>
+        ensures value { is_some result ≡ not (among card.id (map (λ k. k.id) (tasks_of self.old))) }
+        ensures after { tasks_of self.new ≡ (if is_some result then tasks_of self.old ++ task_of card ∷ [] else tasks_of self.old) }
     {
         if self.has(card.id()) {
-            return false;
+            return None;
         }
-        self.cards[self.count] = card;
-        self.count += 1;
-        true
+        self.cards.push(card).ok()
     }
-}
-
-// Whether one of the cards has this number.
-fn numbered(cards: &[Card], id: u32) -> bool
-    ensures { result ≡ among id (map (λ c. c.id) cards.now) }
-{
-    for card in cards {
-        if id == card.id() {
-            return true;
-        }
-    }
-    false
 }

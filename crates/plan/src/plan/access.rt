@@ -29,10 +29,27 @@ impl Plan {
     {
         let table = draft.table;
         let cards = draft.cards;
-        if table.count() == 0 {
+        if table.rows().is_empty() {
             return None;
         }
         Some(Plan { table, cards })
+    }
+
+    // The rows of the slot table, in the order of their lines.
+    pub fn rows(&self) -> &[SlotRow]
+        ensures rows { map marks_of result.now ≡ (contents self.now).rows }
+        ensures some { 1 ≤ length result.now }
+        ensures few { length result.now ≤ 8 }
+    {
+        self.table.rows()
+    }
+
+    // The cards, in the order of their lines.
+    pub fn cards(&self) -> &[Card]
+        ensures cards { map task_of result.now ≡ (contents self.now).tasks }
+        ensures few { length result.now ≤ 32 }
+    {
+        self.cards.cards()
     }
 
     // How many rows the slot table has.
@@ -41,7 +58,7 @@ impl Plan {
         ensures some { 1 ≤ result }
         ensures few { result ≤ 8 }
     {
-        self.table.count()
+        self.rows().len()
     }
 
     // How many cards there are.
@@ -49,21 +66,21 @@ impl Plan {
         ensures value { result ≡ length (contents self.now).tasks }
         ensures few { result ≤ 32 }
     {
-        self.cards.count()
+        self.cards().len()
     }
 
     // Row n of the slot table, counted from 0.
     pub fn row(&self, n: usize) -> Option<SlotRow>
         ensures { option_map marks_of result ≡ slice_get (contents self.now).rows n }
     {
-        self.table.row(n)
+        self.rows().get(n).copied()
     }
 
     // Card n, counted from 0 in the order of the lines.
     pub fn card(&self, n: usize) -> Option<Card>
         ensures { option_map task_of result ≡ slice_get (contents self.now).tasks n }
     {
-        self.cards.card(n)
+        self.cards().get(n).copied()
     }
 
     // After how many ticks the whole slot table repeats: the least common multiple of the periods.

@@ -3,41 +3,36 @@ ghost use Rattle.std.specs.Option.{option_map};
 ghost use Rattle.plan.specs.Rows.{marks_of};
 ghost use Rattle.plan.specs.Marks.{all_marks, given};
 
-use super::SlotRow;
-
-const MAX_MARKS: usize = 64;
-
-const OFF: u8 = b'0';
-
-const ON: u8 = b'1';
+use super::{MAX_MARKS, SlotRow};
+use fixed::FixedList;
 
 impl SlotRow {
     // The row of period 1 that never gives a processor.
     pub(crate) fn idle() -> SlotRow
         ensures { marks_of result ≡ false ∷ [] }
     {
-        SlotRow {
-            period: 1,
-            marks: [false; 64],
-        }
+        let mut marks = FixedList::filled_with(false);
+        marks.fill_from(&[false]);
+        SlotRow { marks }
     }
 
     // The row that these bytes mark, where there are 1 to 64 of them and each is 0 or 1.
     pub(crate) fn new(bytes: &[u8]) -> Option<SlotRow>
         ensures { option_map marks_of result ≡ (if leb 1 (length bytes.now) && (nat_le (length bytes.now) 64 && all_marks bytes.now) then Some (given bytes.now) else None) }
     {
-        let period = bytes.len();
-        if period == 0 || period > MAX_MARKS {
+        let mut marks = FixedList::filled_with(false);
+        for b in bytes {
+            let mark = match *b {
+                b'0' => false,
+                b'1' => true,
+                _ => return None,
+            };
+            marks.push(mark).ok()?;
+        }
+        if bytes.is_empty() {
             return None;
         }
-        let mut marks = [false; 64];
-        for (i, b) in bytes.iter().enumerate() {
-            if *b != OFF && *b != ON {
-                return None;
-            }
-            marks[i] = *b == ON;
-        }
-        Some(SlotRow { period, marks })
+        Some(SlotRow { marks })
     }
 
     // After how many ticks it repeats.
@@ -46,13 +41,13 @@ impl SlotRow {
         ensures some { 1 ≤ result }
         ensures few { result ≤ 64 }
     {
-        self.period
+        self.marks.len()
     }
 
     // Whether it gives a processor in tick x.
     pub fn gives(&self, x: usize) -> bool
         ensures { result ≡ slice_index_or (marks_of self.now) (x % length (marks_of self.now)) false }
     {
-        self.marks[x % self.period]
+        self.marks.as_slice()[x % self.period()]
     }
 }

@@ -1,13 +1,12 @@
-ghost use Rattle.std.specs.Prelude.{◌≡◌, ◌≤◌, false, ◌&&◌, [], ◌∷◌, ◌++◌, map, length, take, if◌then◌else◌, nat_le, nat_lt};
-ghost use Rattle.std.specs.Option.{option_map};
-ghost use Rattle.std.specs.List.{slice_get};
+ghost use Rattle.std.specs.Prelude.{◌≡◌, ◌≤◌, false, ◌&&◌, [], ◌∷◌, ◌++◌, map, length, if◌then◌else◌, is_some, nat_le, nat_lt, Some};
+ghost use Rattle.fixed.specs.Listed.{listed};
+ghost use Rattle.text.specs.Decimal.{at_most};
 ghost use Rattle.plan.specs.Rows.{cycle_of, periods_of, marks_of, LeastCommon};
 ghost use Rattle.plan.specs.Lists.{rows_of};
 
 use super::SlotTable;
 use crate::row::SlotRow;
-
-const ROWS: usize = 8;
+use fixed::FixedList;
 
 const MAX_CYCLE: usize = 512;
 
@@ -17,8 +16,7 @@ impl SlotTable {
         ensures { rows_of result ≡ [] }
     {
         SlotTable {
-            rows: [SlotRow::idle(); 8],
-            count: 0,
+            rows: FixedList::filled_with(SlotRow::idle()),
             cycle: 1,
         }
     }
@@ -27,31 +25,18 @@ impl SlotTable {
     pub(crate) fn idle() -> SlotTable
         ensures { rows_of result ≡ (false ∷ []) ∷ [] }
     {
-        SlotTable {
-            rows: [SlotRow::idle(); 8],
-            count: 1,
-            cycle: 1,
-        }
+        let mut rows = FixedList::filled_with(SlotRow::idle());
+        rows.fill_from(&[SlotRow::idle()]);
+        SlotTable { rows, cycle: 1 }
     }
 
-    // How many rows there are.
-    pub(crate) fn count(&self) -> usize
-        ensures value { result ≡ length (rows_of self.now) }
-        ensures held { result ≡ self.now.count }
-        ensures few { result ≤ 8 }
+    // The rows in the order of their lines.
+    pub(crate) fn rows(&self) -> &[SlotRow]
+        ensures value { map marks_of result.now ≡ rows_of self.now }
+        ensures held { result.now ≡ listed self.now.rows }
+        ensures few { length result.now ≤ 8 }
     {
-        self.count
-    }
-
-    // Row n, counted from 0.
-    pub(crate) fn row(&self, n: usize) -> Option<SlotRow>
-        ensures { option_map marks_of result ≡ slice_get (rows_of self.now) n }
-    {
-        if n < self.count {
-            Some(self.rows[n])
-        } else {
-            None
-        }
+        self.rows.as_slice()
     }
 
     pub(crate) fn cycle(&self) -> usize
@@ -62,36 +47,27 @@ impl SlotTable {
         self.cycle
     }
 
-    // The cycle with one more row, and 513 where it is above 512.
-    fn cycle_with(&self, row: &SlotRow) -> usize
-        ensures { result ≡ cycle_of (periods_of (take self.now.count self.now.rows ++ row.now ∷ [])) }
+    // The cycle with one more row; none where it is above 512.
+    fn cycle_with(&self, row: &SlotRow) -> Option<usize>
+        ensures { result ≡ at_most 512 (Some (cycle_of (periods_of (listed self.now.rows ++ row.now ∷ [])))) }
     {
         // what all of them divide is a multiple of the cycle so far
-        let mut h = self.cycle;
-        while h <= MAX_CYCLE {
+        for h in (self.cycle..=MAX_CYCLE).step_by(self.cycle) {
             if h % row.period() == 0 {
-                return h;
+                return Some(h);
             }
-            h += self.cycle;
         }
-        MAX_CYCLE + 1
+        None
     }
 
     // Adds a row, unless there are eight or the cycle would be above 512.
-    pub(crate) fn push(&mut self, row: SlotRow) -> bool
-        ensures value { result ≡ (nat_lt (length (rows_of self.old)) 8 && nat_le (cycle_of (map length (rows_of self.old ++ marks_of row ∷ []))) 512) }
-        ensures after { rows_of self.new ≡ (if result then rows_of self.old ++ marks_of row ∷ [] else rows_of self.old) }
+    pub(crate) fn push(&mut self, row: SlotRow) -> Option<()>
+        ensures value { is_some result ≡ (nat_lt (length (rows_of self.old)) 8 && nat_le (cycle_of (map length (rows_of self.old ++ marks_of row ∷ []))) 512) }
+        ensures after { rows_of self.new ≡ (if is_some result then rows_of self.old ++ marks_of row ∷ [] else rows_of self.old) }
     {
-        if self.count >= ROWS {
-            return false;
-        }
-        let cycle = self.cycle_with(&row);
-        if cycle > MAX_CYCLE {
-            return false;
-        }
-        self.rows[self.count] = row;
-        self.count += 1;
+        let cycle = self.cycle_with(&row)?;
+        self.rows.push(row).ok()?;
         self.cycle = cycle;
-        true
+        Some(())
     }
 }

@@ -1,7 +1,12 @@
-use Rattle.std.proofs.Common.{[], ◌∷◌, length, sym, refl, ap, arith}
-use Rattle.plan.specs.Rows.{first_from, cycle_of}
+use Rattle.std.proofs.Common.{[], ◌∷◌, ◌++◌, length, take, sym, ap, ◌∙◌, arith}
+use Rattle.plan.specs.Rows.{first_from, cycle_of, periods_of}
 use Rattle.plan.proofs.table.SlotTable.idle.Goals as goal
 
 pub invariant_of-result : goal.invariant_of-result
 unfolding first_from
-invariant_of-result c = record { full = refl; few = omega arith; repeats = sym (ap (λ m. cycle_of (length m ∷ [])) c.idle.ensures); short = omega arith }
+invariant_of-result c = record {
+  repeats =
+      sym (ap (λ rows. cycle_of (periods_of rows)) (c.fill_from.ensures ∙ ap (λ l. take 8 (l ++ c.idle-2.result ∷ [])) c.filled_with-rows.ensures)
+      ∙ ap (λ m. cycle_of (length m ∷ [])) c.idle-2.ensures);
+  short = omega arith;
+}
