@@ -1,33 +1,34 @@
 ghost use Rattle.std.specs.Prelude.{◌≡◌};
 ghost use Rattle.plan.specs.Faults.{cause_number};
+ghost use Rattle.plan.specs.Reading.{at as fault_at};
 
-// Why a plan text is at fault: the question that was answered with no.
+// Why a plan text is at fault: the question that was answered with no, with the number by which the listing names it.
 #[derive(Clone, Copy, PartialEq, Eq, Debug)]
 pub enum Cause {
     // the text has more than 8,192 bytes
-    TextTooLong,
+    TextTooLong = 1,
     // a line has more than 96 bytes, or no byte 10 at its end
-    LineNotEnded,
+    LineNotEnded = 2,
     // the first field is neither S nor T
-    UnknownLine,
+    UnknownLine = 3,
     // an S line has not four fields, or a T line not five
-    FieldCount,
+    FieldCount = 4,
     // a field is no number
-    NotANumber,
+    NotANumber = 5,
     // a row's number is not the count of the rows before it, or not below 8, or the row follows a task
-    RowNumber,
+    RowNumber = 6,
     // a row's period is not from 1 to 64
-    RowPeriod,
+    RowPeriod = 7,
     // the marks are not as many as the period says, each 0 or 1
-    RowMarks,
+    RowMarks = 8,
     // the cycle of the rows so far is above 512
-    CycleTooLong,
+    CycleTooLong = 9,
     // no row comes before the task, or the text has none
-    NoRow,
+    NoRow = 10,
     // a task's number is not below 32, or stands on an earlier line
-    TaskNumber,
+    TaskNumber = 11,
     // not 1 ≤ c ≤ d ≤ t ≤ 4,096
-    TaskTimes,
+    TaskTimes = 12,
 }
 
 impl Cause {
@@ -35,20 +36,7 @@ impl Cause {
     pub fn number(self) -> u32
         ensures { result ≡ cause_number self }
     {
-        match self {
-            Cause::TextTooLong => 1,
-            Cause::LineNotEnded => 2,
-            Cause::UnknownLine => 3,
-            Cause::FieldCount => 4,
-            Cause::NotANumber => 5,
-            Cause::RowNumber => 6,
-            Cause::RowPeriod => 7,
-            Cause::RowMarks => 8,
-            Cause::CycleTooLong => 9,
-            Cause::NoRow => 10,
-            Cause::TaskNumber => 11,
-            Cause::TaskTimes => 12,
-        }
+        self as u32
     }
 }
 
@@ -59,4 +47,13 @@ pub struct Fault {
     pub cause: Cause,
     pub line: u32,
     pub field: u32,
+}
+
+impl Fault {
+    // The fault of this cause, found in this field of this line.
+    pub(crate) fn at(cause: Cause, line: u32, field: u32) -> Fault
+        ensures { result ≡ fault_at cause line field }
+    {
+        Fault { cause, line, field }
+    }
 }
