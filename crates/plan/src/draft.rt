@@ -7,13 +7,9 @@ ghost use Rattle.plan.specs.Reading.{empty, with_row, with_task, with_content};
 use crate::cards::CardList;
 use crate::fault::{Cause, Fault};
 use crate::line::{Field, Line};
-use crate::row::SlotRow;
-use crate::table::SlotTable;
+use crate::row::{MAX_MARKS, SlotRow};
+use crate::table::{ROWS, SlotTable};
 use task::{Card, MAX_PERIOD, TASKS};
-
-const ROWS: u32 = 8;
-
-const MAX_MARKS: u32 = 64;
 
 #[derive(Clone, Copy)]
 pub(crate) struct Draft {
@@ -51,21 +47,19 @@ impl Draft {
     ) -> Result<(), Fault>
         ensures { said result (drafted self.new) ≡ with_row (drafted self.old) (part_of number.entry) (part_of period.entry) (part_of marks.entry) }
     {
-        let n = number.value()?;
-        let p = period.value()?;
-        if n as usize != self.table.rows().len() || n >= ROWS || !self.cards.cards().is_empty() {
+        let n = number.value()? as usize;
+        let p = period.value()? as usize;
+        if n != self.table.rows().len() || n >= ROWS || !self.cards.cards().is_empty() {
             return Err(number.fault(Cause::RowNumber));
         }
-        if p < 1 || p > MAX_MARKS {
+        if !(1..=MAX_MARKS).contains(&p) {
             return Err(period.fault(Cause::RowPeriod));
         }
         let bytes = marks.bytes();
-        if bytes.len() != p as usize {
+        if bytes.len() != p {
             return Err(marks.fault(Cause::RowMarks));
         }
-        let Some(row) = SlotRow::new(bytes) else {
-            return Err(marks.fault(Cause::RowMarks));
-        };
+        let row = SlotRow::new(bytes).ok_or(marks.fault(Cause::RowMarks))?;
         self.table
             .push(row)
             .ok_or(period.fault(Cause::CycleTooLong))
@@ -85,25 +79,19 @@ impl Draft {
         let t = period.value()?;
         let d = deadline.value()?;
         if self.table.rows().is_empty() {
-            return Err(Fault {
-                cause: Cause::NoRow,
-                line: number.line(),
-                field: 1,
-            });
+            return Err(Fault::at(Cause::NoRow, number.line(), 1));
         }
         if id >= TASKS || self.cards.has(id) {
             return Err(number.fault(Cause::TaskNumber));
         }
-        if t < 1 || t > MAX_PERIOD {
+        if !(1..=MAX_PERIOD).contains(&t) {
             return Err(period.fault(Cause::TaskTimes));
         }
-        if d < 1 || d > t {
+        if !(1..=t).contains(&d) {
             return Err(deadline.fault(Cause::TaskTimes));
         }
         // the number, the period and the deadline have passed: what no card has then is the run time
-        let Some(card) = Card::new(id, c, t, d) else {
-            return Err(run.fault(Cause::TaskTimes));
-        };
+        let card = Card::new(id, c, t, d).ok_or(run.fault(Cause::TaskTimes))?;
         self.cards.push(card).ok_or(number.fault(Cause::TaskNumber))
     }
 }

@@ -14,20 +14,13 @@ const COMMA: u8 = b',';
 fn field_count(line: u32) -> Fault
     ensures { result ≡ at FieldCount line 0 }
 {
-    Fault {
-        cause: Cause::FieldCount,
-        line,
-        field: 0,
-    }
+    Fault::at(Cause::FieldCount, line, 0)
 }
 
 fn next_field(rest: &[u8], line: u32) -> Result<(&[u8], &[u8]), Fault>
     ensures { Next line rest.now result }
 {
-    match text::cut(rest, COMMA) {
-        Some(pair) => Ok(pair),
-        None => Err(field_count(line)),
-    }
+    text::cut(rest, COMMA).ok_or(field_count(line))
 }
 
 fn last_field(rest: &[u8], line: u32) -> Result<&[u8], Fault>
@@ -75,11 +68,7 @@ fn other_line(bytes: &[u8], line: u32) -> Fault
 {
     match bytes {
         [b'S'] | [b'T'] => field_count(line),
-        _ => Fault {
-            cause: Cause::UnknownLine,
-            line,
-            field: 1,
-        },
+        _ => Fault::at(Cause::UnknownLine, line, 1),
     }
 }
 

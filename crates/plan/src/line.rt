@@ -22,18 +22,8 @@ impl Field<'_> {
     pub(crate) fn fault(&self, cause: Cause) -> Fault
         ensures { result ≡ wrong cause (part_of self.now) }
     {
-        match self {
-            Field::Number(_, place) => Fault {
-                cause,
-                line: place.line,
-                field: place.field,
-            },
-            Field::Marks(_, place) => Fault {
-                cause,
-                line: place.line,
-                field: place.field,
-            },
-        }
+        let (Field::Number(_, place) | Field::Marks(_, place)) = self;
+        Fault::at(cause, place.line, place.field)
     }
 
     // The number of a number field; marks are no number.
@@ -41,30 +31,23 @@ impl Field<'_> {
         ensures { result ≡ value_in (part_of self.now) }
     {
         match self {
-            Field::Number(digits, _) => match text::decimal(digits) {
-                Some(n) => Ok(n),
-                None => Err(self.fault(Cause::NotANumber)),
-            },
-            Field::Marks(_, _) => Err(self.fault(Cause::NotANumber)),
+            Field::Number(digits, _) => text::decimal(digits).ok_or(self.fault(Cause::NotANumber)),
+            Field::Marks(..) => Err(self.fault(Cause::NotANumber)),
         }
     }
 
     pub(crate) fn bytes(&self) -> &[u8]
         ensures { result.now ≡ bytes_in (part_of self.now) }
     {
-        match self {
-            Field::Number(bytes, _) => bytes,
-            Field::Marks(bytes, _) => bytes,
-        }
+        let (Field::Number(bytes, _) | Field::Marks(bytes, _)) = self;
+        bytes
     }
 
     pub(crate) fn line(&self) -> u32
         ensures { result ≡ line_in (part_of self.now) }
     {
-        match self {
-            Field::Number(_, place) => place.line,
-            Field::Marks(_, place) => place.line,
-        }
+        let (Field::Number(_, place) | Field::Marks(_, place)) = self;
+        place.line
     }
 }
 

@@ -20,20 +20,9 @@ fn take_line<'a>(draft: &mut Draft, rest: &'a [u8], line: u32) -> Result<&'a [u8
     requires { 1 ≤ length rest.now }
     ensures { Onward line (drafted draft.old) rest.now (drafted draft.new) result }
 {
-    let Some((bytes, behind)) = text::cut(rest, NEWLINE) else {
-        return Err(Fault {
-            cause: Cause::LineNotEnded,
-            line,
-            field: 0,
-        });
-    };
-    if bytes.len() > MAX_LINE {
-        return Err(Fault {
-            cause: Cause::LineNotEnded,
-            line,
-            field: 0,
-        });
-    }
+    let (bytes, behind) = text::cut(rest, NEWLINE)
+        .filter(|(bytes, _)| bytes.len() <= MAX_LINE)
+        .ok_or(Fault::at(Cause::LineNotEnded, line, 0))?;
     let fields = fields::parse(bytes, line)?;
     draft.take_line(fields)?;
     Ok(behind)
@@ -60,21 +49,11 @@ impl Plan {
         ensures same { is_err result ≡ true → self.new ≡ self.old }
     {
         if text.len() > MAX_TEXT {
-            return Err(Fault {
-                cause: Cause::TextTooLong,
-                line: 0,
-                field: 0,
-            });
+            return Err(Fault::at(Cause::TextTooLong, 0, 0));
         }
         let mut draft = Draft::new();
         take_lines(&mut draft, text)?;
-        let Some(plan) = Plan::from_draft(&draft) else {
-            return Err(Fault {
-                cause: Cause::NoRow,
-                line: 0,
-                field: 0,
-            });
-        };
+        let plan = Plan::from_draft(&draft).ok_or(Fault::at(Cause::NoRow, 0, 0))?;
         *self = plan;
         Ok(())
     }
