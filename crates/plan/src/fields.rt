@@ -8,54 +8,36 @@ ghost use Rattle.plan.specs.declared.fault.Cause.TheVariants.{FieldCount, Unknow
 
 use crate::fault::{Cause, Fault};
 use crate::line::{Field, Line, Place};
+use rest::Rest;
 
-const COMMA: u8 = b',';
-
-fn field_count(line: u32) -> Fault
-    ensures { result ≡ at FieldCount line 0 }
-{
-    Fault::at(Cause::FieldCount, line, 0)
-}
-
-fn next_field(rest: &[u8], line: u32) -> Result<(&[u8], &[u8]), Fault>
-    ensures { Next line rest.now result }
-{
-    text::cut(rest, COMMA).ok_or(field_count(line))
-}
-
-fn last_field(rest: &[u8], line: u32) -> Result<&[u8], Fault>
-    ensures { Last line rest.now result }
-{
-    match text::cut(rest, COMMA) {
-        Some(_) => Err(field_count(line)),
-        None => Ok(rest),
-    }
-}
+mod rest;
 
 // The fields behind `S,`.
-fn row_line(rest: &[u8], line: u32) -> Result<Line<'_>, Fault>
-    ensures { content_said result ≡ content line ((83 ∷ []) ∷ parts 44 rest.now) }
+fn row_line(mut fields: Rest<'_>) -> Result<Line<'_>, Fault>
+    ensures { content_said result ≡ content fields.entry.line ((83 ∷ []) ∷ parts 44 fields.entry.bytes.now) }
 {
-    let (n, rest) = next_field(rest, line)?;
-    let (period, rest) = next_field(rest, line)?;
-    let marks = last_field(rest, line)?;
+    let line = fields.line;
+    let number = fields.next()?;
+    let period = fields.next()?;
+    let marks = fields.last()?;
     Ok(Line::Row(
-        Field::Number(n, Place { line, field: 2 }),
+        Field::Number(number, Place { line, field: 2 }),
         Field::Number(period, Place { line, field: 3 }),
         Field::Marks(marks, Place { line, field: 4 }),
     ))
 }
 
 // The fields behind `T,`.
-fn task_line(rest: &[u8], line: u32) -> Result<Line<'_>, Fault>
-    ensures { content_said result ≡ content line ((84 ∷ []) ∷ parts 44 rest.now) }
+fn task_line(mut fields: Rest<'_>) -> Result<Line<'_>, Fault>
+    ensures { content_said result ≡ content fields.entry.line ((84 ∷ []) ∷ parts 44 fields.entry.bytes.now) }
 {
-    let (n, rest) = next_field(rest, line)?;
-    let (run, rest) = next_field(rest, line)?;
-    let (period, rest) = next_field(rest, line)?;
-    let deadline = last_field(rest, line)?;
+    let line = fields.line;
+    let number = fields.next()?;
+    let run = fields.next()?;
+    let period = fields.next()?;
+    let deadline = fields.last()?;
     Ok(Line::Task(
-        Field::Number(n, Place { line, field: 2 }),
+        Field::Number(number, Place { line, field: 2 }),
         Field::Number(run, Place { line, field: 3 }),
         Field::Number(period, Place { line, field: 4 }),
         Field::Number(deadline, Place { line, field: 5 }),
@@ -67,7 +49,7 @@ fn other_line(bytes: &[u8], line: u32) -> Fault
     ensures { result ≡ (if lone_letter bytes.now then at FieldCount line 0 else at UnknownLine line 1) }
 {
     match bytes {
-        [b'S'] | [b'T'] => field_count(line),
+        [b'S'] | [b'T'] => Fault::at(Cause::FieldCount, line, 0),
         _ => Fault::at(Cause::UnknownLine, line, 1),
     }
 }
@@ -76,8 +58,8 @@ pub(crate) fn parse(bytes: &[u8], line: u32) -> Result<Line<'_>, Fault>
     ensures { content_said result ≡ content line (parts 44 bytes.now) }
 {
     match bytes {
-        [b'S', b',', rest @ ..] => row_line(rest, line),
-        [b'T', b',', rest @ ..] => task_line(rest, line),
+        [b'S', b',', rest @ ..] => row_line(Rest { bytes: rest, line }),
+        [b'T', b',', rest @ ..] => task_line(Rest { bytes: rest, line }),
         _ => Err(other_line(bytes, line)),
     }
 }
