@@ -16,32 +16,6 @@ pub const PLAN_ROOM: usize = 8193;
 // how many bytes are asked for at a time
 const CHUNK: usize = 512;
 
-// Reads and forgets some bytes: answers how many, 0 at the end of the input.
-fn skip_some(input: &mut impl Read) -> io::Result<usize> {
-    let mut spare = [0u8; 512];
-    input.read(&mut spare)
-}
-
-// Reads the input to its end, however long it is, and keeps its first bytes: answers how many of them `text` holds.
-pub fn read_front(input: &mut impl Read, text: &mut [u8; PLAN_ROOM]) -> io::Result<usize>
-    ensures { IfOk result (λ n. n ≤ 8193) }
-{
-    let mut filled = 0;
-    for _ in 0..u64::MAX {
-        let count = if filled < PLAN_ROOM {
-            let more = input.read(&mut text[filled..])?;
-            filled += more;
-            more
-        } else {
-            skip_some(input)?
-        };
-        if count == 0 {
-            break;
-        }
-    }
-    Ok(filled)
-}
-
 // Reads the input to its end, however long it is, and adds its bytes to the front that is kept; what was kept before stays in front,
 // also where a read fails. How many bytes came is all that the standard library says of a read; that they are those of the input,
 // and that 0 of them are its end, is trusted.
@@ -49,6 +23,7 @@ pub fn fill_front(input: &mut impl Read, front: &mut Front) -> io::Result<()>
     ensures { take (length (kept front.old)) (kept front.new) ≡ kept front.old }
 {
     let mut chunk = [0u8; CHUNK];
+    // every loop is proved to end: so many reads never come
     for _ in 0..u64::MAX {
         let count = input.read(&mut chunk)?;
         if count == 0 {
@@ -57,4 +32,15 @@ pub fn fill_front(input: &mut impl Read, front: &mut Front) -> io::Result<()>
         front.push(&chunk[0..count]);
     }
     Ok(())
+}
+
+// Reads the input to its end, however long it is, and keeps its first bytes: answers how many of them `text` holds.
+pub fn read_front(input: &mut impl Read, text: &mut [u8; PLAN_ROOM]) -> io::Result<usize>
+    ensures { IfOk result (λ n. n ≤ 8193) }
+{
+    let mut front = Front::new();
+    fill_front(input, &mut front)?;
+    let kept = front.bytes();
+    text[..kept.len()].copy_from_slice(kept);
+    Ok(kept.len())
 }

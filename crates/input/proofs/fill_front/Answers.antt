@@ -1,9 +1,8 @@
-use Rattle.std.proofs.Common.{◌≤◌, length, arith, length-take}
+use Rattle.std.proofs.Common.{arith}
 use Rattle.input.specs.Kept.{kept}
-use Rattle.input.proofs.Keeping.{front_stays}
+use Rattle.input.proofs.Keeping.{few, front_stays}
 use Rattle.input.proofs.fill_front.Goals as goal
 
 pub loop-preserved : goal.loop-preserved
 loop-preserved g c =
-    let few : length (kept c.args.front.now) ≤ 8193 = omega (arith, length-take c.args.front.now.len c.args.front.now.bytes, c.args.front.now.within) in
-    (omega (arith, c.read.auto.buf, c.loop.invariant.0), rw c.push.ensures (front_stays (kept c.args.front.now) (kept c.loop.front) _ few c.loop.invariant.1))
+    (omega (arith, c.read.auto.buf, c.loop.invariant.0), rw c.push.ensures (front_stays (kept c.args.front.now) (kept c.loop.front) _ (few c.args.front.now) c.loop.invariant.1))

@@ -1,7 +1,8 @@
 ghost use Rattle.std.specs.Prelude.{◌≡◌, [], ◌++◌, take};
 ghost use Rattle.input.specs.Kept.{kept};
 
-use super::{Front, ROOM};
+use super::Front;
+use fixed::FixedList;
 
 impl Front {
     // Of nothing so far.
@@ -9,8 +10,7 @@ impl Front {
         ensures { kept result ≡ [] }
     {
         Front {
-            bytes: [0; ROOM],
-            len: 0,
+            bytes: FixedList::filled_with(0),
         }
     }
 
@@ -18,18 +18,13 @@ impl Front {
     pub fn push(&mut self, more: &[u8])
         ensures { kept self.new ≡ take 8193 (kept self.old ++ more.now) }
     {
-        for b in more {
-            if self.len < ROOM {
-                self.bytes[self.len] = *b;
-                self.len += 1;
-            }
-        }
+        self.bytes.fill_from(more);
     }
 
     // What is kept of the text.
     pub fn bytes(&self) -> &[u8]
         ensures { result.now ≡ kept self.now }
     {
-        &self.bytes[0..self.len]
+        self.bytes.as_slice()
     }
 }
