@@ -1,6 +1,7 @@
 -- The cycle of rows: the search for it, and one row more. Assumes nothing.
 use Rattle.std.proofs.Common.{◌≡◌, ℕ, zero, suc, ◌+◌, ◌-◌, ◌*◌, ◌/◌, ◌%◌, ◌<◌, ◌≤◌, Bool, true, false, ◌&&◌, eqb, ◌⊎◌, List, [], ◌∷◌, ◌++◌, map, length, Some, None, sym, refl, ap, ◌∙◌, inl, inr, mod-lt, mod-eq_of_lt, div-add-mod', arith}
 use native.Mathlib.Nat.{mod-mod_of_dvd, dvd_of_mod-eq-zero, zero-mod, add-mul-mod_self_right}
+use Rattle.std.proofs.Math.Bool.{and-true, and_assoc}
 use Rattle.std.proofs.lemmas.List.{map_push}
 use Rattle.std.proofs.lemmas.Bool.{eq-eqb, ne_eqb, and_left, and_right, and_parts, and_from, eqb-true, cases_Bool, cases_eq, cases_lt, both_ways, le-leb}
 use Rattle.text.specs.Decimal.{at_most}
@@ -10,16 +11,8 @@ use Rattle.std.specs.List.{AllByRecursion}
 
 -- every period of a longer list divides h
 divided_push : (ps : List ℕ) (p h : ℕ) → divided_by (ps ++ p ∷ []) h ≡ (divided_by ps h && eqb (h % p) 0)
-divided_push [] p h = and_true (eqb (h % p) 0)
-  where
-    and_true : (b : Bool) → (b && true) ≡ b
-    and_true true = refl
-    and_true false = refl
-divided_push (q ∷ ps) p h = ap (λ b. eqb (h % q) 0 && b) (divided_push ps p h) ∙ regroup (eqb (h % q) 0) (divided_by ps h) (eqb (h % p) 0)
-  where
-    regroup : (a b c : Bool) → (a && (b && c)) ≡ ((a && b) && c)
-    regroup true b c = refl
-    regroup false b c = refl
+divided_push [] p h = and-true (eqb (h % p) 0)
+divided_push (q ∷ ps) p h = ap (λ b. eqb (h % q) 0 && b) (divided_push ps p h) ∙ sym (and_assoc (eqb (h % q) 0) (divided_by ps h) (eqb (h % p) 0))
 
 pub divided_row : (rows : List SlotRow) (r : SlotRow) (h : ℕ) → divided_by (periods_of (rows ++ r ∷ [])) h ≡ (divided_by (periods_of rows) h && eqb (h % length (marks_of r)) 0)
 divided_row rows r h = ap (λ ps. divided_by ps h) (map_push (λ x. length (marks_of x)) rows r) ∙ divided_push (periods_of rows) (length (marks_of r)) h

@@ -1,10 +1,11 @@
 -- Numbers that stand once: there are no more of them below n than n. Assumes nothing.
-use Rattle.std.proofs.Common.{◌≡◌, ℕ, zero, suc, ◌<◌, ◌≤◌, true, false, cond, not, ◌||◌, eqb, ltb, List, [], ◌∷◌, ◌++◌, map, length, Ok, Err, Result, OnOk, sym, refl, ap, ◌∙◌, inl, inr, arith}
+use Rattle.std.proofs.Common.{◌≡◌, ℕ, ◌<◌, ◌≤◌, true, false, not, ◌||◌, eqb, ltb, List, [], ◌∷◌, ◌++◌, map, length, Ok, Err, Result, OnOk, sym, refl, ap, ◌∙◌, inl, inr, arith}
 use Rattle.std.proofs.lemmas.List.{length_push, length-map, map_push}
 use Rattle.std.specs.Result.{is_ok}
 use Rattle.std.proofs.ByRecursion.{All-push}
 use Rattle.std.proofs.lemmas.Bool.{eqb-true, eqb-false, ne_eqb, cases_Bool, and_parts, and_from, or_parts, or_from, not-true, not_from_false, lt-ltb, both_ways}
-use Rattle.std.specs.List.{AllByRecursion, list_any}
+use Rattle.std.proofs.lemmas.Map.Steps.{length-le_from_distinct_below}
+use Rattle.std.specs.List.{AllByRecursion, IsDistinct, list_any}
 use Rattle.fixed.specs.Listed.{listed}
 use Rattle.task.specs.declared.card.Card.{Card}
 use Rattle.task.specs.Task.{task_of}
@@ -12,63 +13,28 @@ use Rattle.plan.specs.declared.cards.CardList.{CardList}
 use Rattle.plan.specs.Lists.{tasks_of}
 use Rattle.plan.specs.Rows.{has, distinct, ids_in}
 
-without : ℕ → List ℕ → List ℕ
-without m [] = []
-without m (x ∷ xs) = cond (eqb x m) (without m xs) (x ∷ without m xs)
+-- ---- in the words of the library
 
-has_without : (i m : ℕ) (xs : List ℕ) → has i xs ≡ false → has i (without m xs) ≡ false
-unfolding without
-has_without i m [] h = refl
-has_without i m (x ∷ xs) h =
-    let parts = or_parts (eqb i x) (has i xs) h in
-    elim (cases_Bool (eqb x m)) [
-      | inl e ↦ rw e (has_without i m xs parts.1)
-      | inr e ↦ rw e (or_from (eqb i x) _ parts.0 (has_without i m xs parts.1))
-    ]
+apart : (n : ℕ) (xs : List ℕ) → has n xs ≡ false → AllByRecursion (λ x. eqb n x ≡ false) xs
+apart n [] h = tt
+apart n (x ∷ xs) h = let parts = or_parts (eqb n x) (has n xs) h in (parts.0, apart n xs parts.1)
 
-distinct_without : (m : ℕ) (xs : List ℕ) → distinct xs ≡ true → distinct (without m xs) ≡ true
-unfolding without
-distinct_without m [] h = refl
-distinct_without m (x ∷ xs) h =
-    let parts = and_parts (not (has x xs)) (distinct xs) h in
-    elim (cases_Bool (eqb x m)) [
-      | inl e ↦ rw e (distinct_without m xs parts.1)
-      | inr e ↦ rw e (and_from (not (has x (without m xs))) _ (not_from_false _ (has_without x m xs (not-true _ parts.0))) (distinct_without m xs parts.1))
-    ]
+all_apart : (xs : List ℕ) → distinct xs ≡ true → IsDistinct eqb xs
+unfolding IsDistinct
+all_apart [] h = tt
+all_apart (x ∷ xs) h =
+    let parts = and_parts (not (has x xs)) (distinct xs) h in (apart x xs (not-true _ parts.0), all_apart xs parts.1)
 
-absent : (m : ℕ) (xs : List ℕ) → has m xs ≡ false → without m xs ≡ xs
-unfolding without
-absent m [] h = refl
-absent m (x ∷ xs) h =
-    let parts = or_parts (eqb m x) (has m xs) h in
-    let other : eqb x m ≡ false = ne_eqb x m (λ e. eqb-false m x parts.0 (sym e)) in
-    rw other (ap (λ l. x ∷ l) (absent m xs parts.1))
-
-length_without : (m : ℕ) (xs : List ℕ) → distinct xs ≡ true → length xs ≤ suc (length (without m xs))
-unfolding without
-length_without m [] h = omega arith
-length_without m (x ∷ xs) h =
-    let parts = and_parts (not (has x xs)) (distinct xs) h in
-    elim (cases_Bool (eqb x m)) [
-      | inl e ↦ rw e (let same = absent m xs (ap (λ i. has i xs) (sym (eqb-true x m e)) ∙ not-true _ parts.0) in omega (arith, ap length same))
-      | inr e ↦ rw e (omega (arith, length_without m xs parts.1))
-    ]
-
-below_without : (m : ℕ) (xs : List ℕ) → AllByRecursion (λ i. i < suc m) xs → AllByRecursion (λ i. i < m) (without m xs)
-unfolding without
-below_without m [] h = tt
-below_without m (x ∷ xs) h =
-    elim (cases_Bool (eqb x m)) [
-      | inl e ↦ rw e (below_without m xs h.1)
-      | inr e ↦ rw e (let other = eqb-false x m e in let first = h.0 in (omega arith, below_without m xs h.1))
+below : (n q : ℕ) (xs : List ℕ) → AllByRecursion (λ i. i < n) xs → list_any (eqb q) xs ≡ true → q < n
+below n q [] all there = absurd (both_ways false refl there)
+below n q (x ∷ xs) all there =
+    elim (cases_Bool (eqb q x)) [
+      | inl same ↦ let first = all.0 in omega (arith, eqb-true q x same)
+      | inr other ↦ below n q xs all.1 (rw other at there)
     ]
 
 pub few : (n : ℕ) (xs : List ℕ) → distinct xs ≡ true → AllByRecursion (λ i. i < n) xs → length xs ≤ n
-few zero [] h below = omega arith
-few zero (x ∷ xs) h below = absurd (let first = below.0 in omega arith)
-few (suc n) xs h below =
-    let rest = few n (without n xs) (distinct_without n xs h) (below_without n xs below) in
-    omega (arith, length_without n xs h)
+few n xs h all = length-le_from_distinct_below xs n (all_apart xs h) (λ q there. below n q xs all there)
 
 -- one number more
 has_push : (i y : ℕ) (xs : List ℕ) → has i xs ≡ false → (i ≡ y → ⊥) → has i (xs ++ y ∷ []) ≡ false
