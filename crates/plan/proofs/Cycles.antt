@@ -1,11 +1,14 @@
 -- The cycle of rows: the search for it, and one row more. Assumes nothing.
 use Rattle.std.proofs.Common.{◌≡◌, ℕ, zero, suc, ◌+◌, ◌-◌, ◌*◌, ◌/◌, ◌%◌, ◌<◌, ◌≤◌, Bool, true, false, ◌&&◌, eqb, ◌⊎◌, List, [], ◌∷◌, ◌++◌, map, length, Some, None, sym, refl, ap, ◌∙◌, inl, inr, mod-lt, mod-eq_of_lt, div-add-mod', arith}
 use native.Mathlib.Nat.{mod-mod_of_dvd, dvd_of_mod-eq-zero, zero-mod, add-mul-mod_self_right}
+use Rattle.std.proofs.lemmas.Simd.{map-map}
 use Rattle.std.proofs.Math.Bool.{and-true, and_assoc}
 use Rattle.std.proofs.lemmas.List.{map_push}
 use Rattle.std.proofs.lemmas.Bool.{eq-eqb, ne_eqb, and_left, and_right, and_parts, and_from, eqb-true, cases_Bool, cases_eq, cases_lt, both_ways, le-leb}
 use Rattle.text.specs.Decimal.{at_most}
+use Rattle.fixed.specs.Listed.{listed}
 use Rattle.plan.specs.declared.row.SlotRow.{SlotRow}
+use Rattle.plan.specs.declared.table.SlotTable.{SlotTable}
 use Rattle.plan.specs.Rows.{marks_of, first_from, divided_by, cycle_of, periods_of, LeastCommon, CycleLaw}
 use Rattle.std.specs.List.{AllByRecursion}
 
@@ -19,11 +22,10 @@ divided_row rows r h = ap (λ ps. divided_by ps h) (map_push (λ x. length (mark
 
 -- the periods of rows are the lengths of their marks
 pub lengths : (rows : List SlotRow) → map length (map marks_of rows) ≡ periods_of rows
-lengths [] = refl
-lengths (r ∷ rows) = ap (λ l. length (marks_of r) ∷ l) (lengths rows)
+lengths rows = map-map length marks_of rows
 
-pub lengths_push : (rows : List SlotRow) (r : SlotRow) → map length (map marks_of rows ++ marks_of r ∷ []) ≡ periods_of (rows ++ r ∷ [])
-lengths_push rows r = ap (map length) (sym (map_push marks_of rows r)) ∙ lengths (rows ++ r ∷ [])
+pub cycle_push : (rows : List SlotRow) (r : SlotRow) → cycle_of (map length (map marks_of rows ++ marks_of r ∷ [])) ≡ cycle_of (periods_of (rows ++ r ∷ []))
+cycle_push rows r = ap (λ rs. cycle_of (map length rs)) (sym (map_push marks_of rows r)) ∙ ap cycle_of (lengths (rows ++ r ∷ []))
 
 -- ---- the cycle is the least common multiple
 
@@ -121,38 +123,38 @@ module _ (p : ℕ → Bool) where
   first_none (suc n) h below = rw (below h (omega arith) (omega arith)) (omega (arith, first_none n (suc h) (λ k l m. below k (omega arith) (omega arith))))
 
 -- the search over the multiples of the cycle so far: nothing below h is a multiple of all
-abbrev pub Below : List SlotRow → SlotRow → ℕ → Type 0
-Below rows r h = (k : ℕ) → 1 ≤ k → k < h → divided_by (periods_of (rows ++ r ∷ [])) k ≡ false
+abbrev pub Below : SlotTable → SlotRow → ℕ → Type 0
+Below t r h = (k : ℕ) → 1 ≤ k → k < h → divided_by (periods_of (listed t.rows ++ r ∷ [])) k ≡ false
 
-module _ (rows : List SlotRow) (r : SlotRow) (cycle : ℕ) (is : cycle ≡ cycle_of (periods_of rows)) (short : cycle ≤ 512) where
-  pub least : LeastCommon (periods_of rows) cycle
-  least = rw is (least_common (periods_of rows) (omega arith))
+pub least : (t : SlotTable) → LeastCommon (periods_of (listed t.rows)) t.cycle
+least t = rw t.repeats (least_common (periods_of (listed t.rows)) (omega (arith, t.short, t.repeats)))
 
-  not_multiple : (k : ℕ) → (k % cycle ≡ 0 → ⊥) → divided_by (periods_of (rows ++ r ∷ [])) k ≡ false
+module _ (t : SlotTable) (r : SlotRow) where
+  not_multiple : (k : ℕ) → (k % t.cycle ≡ 0 → ⊥) → divided_by (periods_of (listed t.rows ++ r ∷ [])) k ≡ false
   not_multiple k not' =
-      let none : divided_by (periods_of rows) k ≡ false = elim (cases_Bool (divided_by (periods_of rows) k)) [ inl e ↦ absurd (not' (multiple (periods_of rows) cycle k least e)) | inr e ↦ e ] in
-      divided_row rows r k ∙ and_left (divided_by (periods_of rows) k) (eqb (k % length (marks_of r)) 0) none
+      let none : divided_by (periods_of (listed t.rows)) k ≡ false = elim (cases_Bool (divided_by (periods_of (listed t.rows)) k)) [ inl e ↦ absurd (not' (multiple (periods_of (listed t.rows)) t.cycle k (least t) e)) | inr e ↦ e ] in
+      divided_row (listed t.rows) r k ∙ and_left (divided_by (periods_of (listed t.rows)) k) (eqb (k % length (marks_of r)) 0) none
 
-  pub first_multiple : Below rows r cycle
+  pub first_multiple : Below t r t.cycle
   first_multiple k low high = not_multiple k (λ z. absurd (omega (arith, mod-eq_of_lt high, z)))
 
-  pub next_multiple : (h : ℕ) → h % cycle ≡ 0 → (h % length (marks_of r) ≡ 0 → ⊥) → Below rows r h → Below rows r (h + cycle)
+  pub next_multiple : (h : ℕ) → h % t.cycle ≡ 0 → (h % length (marks_of r) ≡ 0 → ⊥) → Below t r h → Below t r (h + t.cycle)
   next_multiple h whole not' below k low high =
       elim (cases_lt k h) [
         | inl less ↦ below k low less
         | inr past ↦ elim (cases_eq k h) [
-          | inl e ↦ divided_row rows r k ∙ and_right (divided_by (periods_of rows) k) (eqb (k % length (marks_of r)) 0) (ne_eqb _ 0 (λ z. not' (ap (λ x. x % length (marks_of r)) (sym e) ∙ z)))
-          | inr ne ↦ not_multiple k (λ z. absurd (omega (arith, between h k cycle whole past high, z)))
+          | inl e ↦ divided_row (listed t.rows) r k ∙ and_right (divided_by (periods_of (listed t.rows)) k) (eqb (k % length (marks_of r)) 0) (ne_eqb _ 0 (λ z. not' (ap (λ x. x % length (marks_of r)) (sym e) ∙ z)))
+          | inr ne ↦ not_multiple k (λ z. absurd (omega (arith, between h k t.cycle whole past high, z)))
         ]
       ]
 
-  pub at_multiple : (h : ℕ) → 1 ≤ h → h ≤ 512 → h % cycle ≡ 0 → h % length (marks_of r) ≡ 0 → Below rows r h → Some h ≡ at_most 512 (Some (cycle_of (periods_of (rows ++ r ∷ []))))
+  pub at_multiple : (h : ℕ) → 1 ≤ h → h ≤ 512 → h % t.cycle ≡ 0 → h % length (marks_of r) ≡ 0 → Below t r h → Some h ≡ at_most 512 (Some (cycle_of (periods_of (listed t.rows ++ r ∷ []))))
   at_multiple h some high whole here below =
-      let all = divided_row rows r h ∙ and_from (divided_by (periods_of rows) h) _ (all_divided (periods_of rows) h (all_multiple (periods_of rows) cycle h least.1 whole)) (eq-eqb _ 0 here) in
-      let found : cycle_of (periods_of (rows ++ r ∷ [])) ≡ h = first_is (divided_by (periods_of (rows ++ r ∷ []))) 512 1 h some (omega arith) all below in
+      let all = divided_row (listed t.rows) r h ∙ and_from (divided_by (periods_of (listed t.rows)) h) _ (all_divided (periods_of (listed t.rows)) h (all_multiple (periods_of (listed t.rows)) t.cycle h (least t).1 whole)) (eq-eqb _ 0 here) in
+      let found : cycle_of (periods_of (listed t.rows ++ r ∷ [])) ≡ h = first_is (divided_by (periods_of (listed t.rows ++ r ∷ []))) 512 1 h some (omega arith) all below in
       rw found (rw (le-leb h 512 high) refl)
 
-  pub no_multiple : (h : ℕ) → 512 < h → Below rows r h → None ≡ at_most 512 (Some (cycle_of (periods_of (rows ++ r ∷ []))))
+  pub no_multiple : (h : ℕ) → 512 < h → Below t r h → None ≡ at_most 512 (Some (cycle_of (periods_of (listed t.rows ++ r ∷ []))))
   no_multiple h past below =
-      let none : cycle_of (periods_of (rows ++ r ∷ [])) ≡ 513 = first_none (divided_by (periods_of (rows ++ r ∷ []))) 512 1 (λ k low high. below k low (omega arith)) in
+      let none : cycle_of (periods_of (listed t.rows ++ r ∷ [])) ≡ 513 = first_none (divided_by (periods_of (listed t.rows ++ r ∷ []))) 512 1 (λ k low high. below k low (omega arith)) in
       rw none refl

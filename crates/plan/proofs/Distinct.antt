@@ -4,6 +4,7 @@ use Rattle.std.proofs.lemmas.List.{length_push, length-map, map_push}
 use Rattle.std.specs.Result.{is_ok}
 use Rattle.std.proofs.ByRecursion.{All-push}
 use Rattle.std.proofs.lemmas.Bool.{eqb-true, eqb-false, ne_eqb, cases_Bool, and_parts, and_from, or_parts, or_from, not-true, not_from_false, lt-ltb, both_ways}
+use Rattle.std.proofs.lemmas.Simd.{map-map}
 use Rattle.std.proofs.lemmas.Map.Steps.{length-le_from_distinct_below}
 use Rattle.std.specs.List.{AllByRecursion, IsDistinct, list_any}
 use Rattle.fixed.specs.Listed.{listed}
@@ -59,8 +60,7 @@ ids_below [] = tt
 ids_below (c ∷ cards) = (c.numbered, ids_below cards)
 
 pub ids_same : (cards : List Card) → map (λ k. k.id) (map task_of cards) ≡ map (λ c. c.id) cards
-ids_same [] = refl
-ids_same (c ∷ cards) = ap (λ l. c.id ∷ l) (ids_same cards)
+ids_same cards = map-map (λ k. k.id) task_of cards
 
 -- a number that no card has leaves room for one card more
 pub room : (cards : List Card) (y : ℕ) → distinct (map (λ c. c.id) cards) ≡ true → y < 32 → has y (map (λ c. c.id) cards) ≡ false → length cards < 32

@@ -16,8 +16,11 @@ impl<'a> Rest<'a> {
     pub(crate) fn next(&mut self) -> Result<&'a [u8], Fault>
         ensures { Next self.old result self.new }
     {
-        let (field, behind) = text::cut(self.bytes, COMMA)
-            .ok_or(Fault::at(Cause::FieldCount, self.line, 0))?;
+        let (field, behind) = text::cut(self.bytes, COMMA).ok_or(Fault::at(
+            Cause::FieldCount,
+            self.line,
+            0,
+        ))?;
         self.bytes = behind;
         Ok(field)
     }
