@@ -1,14 +1,13 @@
 -- What the rows of a slot table give repeats itself with their cycle. Assumes nothing.
-use Rattle.std.proofs.Common.{◌≡◌, ℕ, zero, suc, ◌+◌, ◌-◌, ◌%◌, ◌<◌, ◌≤◌, Bool, true, false, cond, List, [], ◌∷◌, map, length, get_or, take, replicate, Some, sym, refl, ap, ◌∙◌, inl, inr, mod-eq_of_lt, add_comm, zero-add, mul-one, arith}
+use Rattle.std.proofs.Common.{◌≡◌, ℕ, ◌+◌, ◌%◌, ◌<◌, ◌≤◌, Bool, true, false, cond, List, [], ◌∷◌, map, length, get_or, take, replicate, sym, refl, ap, ◌∙◌, add_comm, zero-add, mul-one, arith}
 use mathlib.Core.Path.{fun_ext}
-use native.Mathlib.Nat.{mod-add-mod, add-mod_right}
+use native.Mathlib.Nat.{mod-add-mod}
 use Rattle.std.proofs.lemmas.List.Sums.{sum_by-cons, sum_by_more}
 use Rattle.std.proofs.ByRecursion.{sum_by_le}
-use Rattle.std.proofs.lemmas.List.{length-take, take_all}
-use Rattle.plan.proofs.Taken.{nth_some}
-use Rattle.std.proofs.lemmas.Bool.{cases_lt}
-use Rattle.std.specs.List.{slice_get, AllByRecursion}
-use Rattle.plan.specs.Rows.{cycle_of, LeastCommon}
+use Rattle.std.proofs.lemmas.List.{length-take, length-map, get_or-map, take_all}
+use Rattle.plan.specs.declared.row.SlotRow.{SlotRow}
+use Rattle.std.specs.List.{AllByRecursion}
+use Rattle.plan.specs.Rows.{marks_of, cycle_of, LeastCommon}
 use Rattle.rack.specs.Cycle.{Periodic, repeated, cycle_table, least_window}
 use Rattle.rack.specs.Least.{Least}
 use Rattle.rack.specs.Slots.{gives, slot_row, slot_table}
@@ -69,10 +68,16 @@ sofar_none rows x = zeros 512 x
 pub sofar_few : (rows : List (List Bool)) (n : ℕ) (counts : List ℕ) (x : ℕ) → n < 8 → Sofar rows n counts x → get_or counts x 0 ≤ 7
 sofar_few rows n counts x few so = omega (arith, row_few (take n rows) x, length-take n rows)
 
-pub sofar_more : (rows : List (List Bool)) (n : ℕ) (marks : List Bool) (counts more : List ℕ) (x : ℕ) → Some marks ≡ slice_get rows n → Sofar rows n counts x → get_or more x 0 ≡ get_or counts x 0 + gives marks x → Sofar rows (n + 1) more x
-sofar_more rows n marks counts more x is so e =
-    let there = nth_some rows n marks is in
-    omega (arith, sum_by_more (λ m. gives m x) rows n marks there.0, ap (λ m. gives m x) there.1)
+-- the marks of the row that comes next
+pub row_next : (items : List SlotRow) (rows : List (List Bool)) (n : ℕ) (row : SlotRow) → map marks_of items ≡ rows → n < length items → row ≡ get_or items n row → (n < length rows) × (get_or rows n (marks_of row) ≡ marks_of row)
+row_next items rows n row e lt is = (
+  omega (arith, simp length-map at (ap length e)),
+  ap (λ l. get_or l n (marks_of row)) (sym e) ∙ get_or-map marks_of items n row (marks_of row) lt ∙ ap marks_of (sym is),
+)
+
+pub sofar_more : (rows : List (List Bool)) (n : ℕ) (marks : List Bool) (counts more : List ℕ) (x : ℕ) → (n < length rows) × (get_or rows n marks ≡ marks) → Sofar rows n counts x → get_or more x 0 ≡ get_or counts x 0 + gives marks x → Sofar rows (n + 1) more x
+sofar_more rows n marks counts more x next so e =
+    omega (arith, sum_by_more (λ m. gives m x) rows n marks next.0, ap (λ m. gives m x) next.1)
 
 pub sofar_all : (rows : List (List Bool)) (n : ℕ) (counts : List ℕ) (x : ℕ) → length rows ≤ n → Sofar rows n counts x → get_or counts x 0 ≡ slot_row rows x
 sofar_all rows n counts x all so = so ∙ ap (λ l. slot_row l x) (take_all n rows all)

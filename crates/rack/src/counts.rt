@@ -23,11 +23,13 @@ fn add_round(counts: &mut [u8; MAX_CYCLE], row: &SlotRow, start: usize, count: u
 
 // Counts one row more in each of the first `cycle` ticks: one round of its marks after another, the last as far as the cycle goes.
 fn add_row(counts: &mut [u8; MAX_CYCLE], row: &SlotRow, cycle: usize)
-    requires { (cycle ≤ 512) × (((x : ℕ) → x < cycle → slice_index counts.old x ≤ 7)) }
+    requires within { cycle ≤ 512 }
+    requires few { (x : ℕ) → x < cycle → slice_index counts.old x ≤ 7 }
     ensures { (x : ℕ) → x < cycle → slice_index counts.new x ≡ slice_index counts.old x + gives (marks_of row.now) x }
 {
     let period = row.period();
     let mut start = 0;
+    // by hand: of what is written through `chunks_mut` a proof knows nothing behind the loop
     while start + period <= cycle {
         add_round(counts, row, start, period);
         start += period;
@@ -40,11 +42,8 @@ pub(crate) fn counts(plan: &Plan) -> [u8; MAX_CYCLE]
     ensures { (x : ℕ) → x < cycle_of (map length (contents plan.now).rows) → slice_index result x ≡ slot_row (contents plan.now).rows x }
 {
     let mut counts = [0; MAX_CYCLE];
-    for n in 0..plan.row_count() {
-        let Some(row) = plan.row(n) else {
-            return counts;
-        };
-        add_row(&mut counts, &row, plan.cycle());
+    for row in plan.rows() {
+        add_row(&mut counts, row, plan.cycle());
     }
     counts
 }

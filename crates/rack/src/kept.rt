@@ -2,7 +2,8 @@
 ghost use Rattle.std.specs.Prelude.{◌≡◌, ℕ, suc, ◌<◌, ◌≤◌, true, Some, slice_index};
 ghost use Rattle.rack.specs.Kept.{kept_at, Keeps};
 
-use crate::running::{LEVELS, MAX_CYCLE};
+use crate::level::{LEVELS, Level};
+use crate::running::MAX_CYCLE;
 
 // the most lengths that have a place: one for each card of a plan
 const MAX_KEPT: u8 = 32;
@@ -43,20 +44,21 @@ impl Kept {
     }
 
     // The least window of s ticks that is kept for a level.
-    pub(crate) fn get(&self, level: usize, s: usize) -> Option<u16>
-        requires { (0 < level) × ((level ≤ 8) × (s < 512)) }
-        ensures { (table : ℕ → ℕ → ℕ) (m : ℕ) → Keeps table self.now.place self.now.least → result ≡ Some m → m ≡ table level s }
+    pub(crate) fn get(&self, level: Level, s: usize) -> Option<u16>
+        requires { s < 512 }
+        ensures { (table : ℕ → ℕ → ℕ) (m : ℕ) → Keeps table self.now.place self.now.least → result ≡ Some m → m ≡ table level.number s }
     {
         let place = usize::from(self.place[s]);
         if place == 0 {
             return None;
         }
-        Some(self.least[place][level - 1])
+        Some(self.least[place][level.place()])
     }
 
     // Keeps the least windows of s ticks.
     pub(crate) fn put(&mut self, s: usize, least: [u16; LEVELS])
-        requires { (s < 512) × (self.old.taken < 32) }
+        requires within { s < 512 }
+        requires room { self.old.taken < 32 }
         ensures { (table : ℕ → ℕ → ℕ) → Keeps table self.old.place self.old.least → ((j : ℕ) → j < 8 → slice_index least j ≡ table (suc j) s) → Keeps table self.new.place self.new.least }
     {
         self.taken += 1;

@@ -6,7 +6,8 @@ ghost use Rattle.rack.specs.Kept.{Keeps};
 ghost use Rattle.rack.specs.Sums.{sums_at};
 
 use crate::kept::Kept;
-use crate::running::{LEVELS, LevelSums, MAX_CYCLE};
+use crate::level::{LEVELS, Level};
+use crate::running::{LevelSums, MAX_CYCLE};
 use supply::{MAX_LENGTH, MAX_LEVEL};
 
 #[derive(Drop)]
@@ -19,7 +20,8 @@ pub(crate) struct Levels {
     sums: [LevelSums; LEVELS],
     // the least windows that are kept
     kept: Kept,
-    ghost round: { (0 < cycle) × (cycle ≤ 512) },
+    ghost some: { 0 < cycle },
+    ghost few: { cycle ≤ 512 },
     ghost summed: { (j k : ℕ) → (j < 8) × (k ≤ cycle) → slice_index (sums_at sums j) k ≡ window (suc j) (repeated given cycle) 0 k },
     ghost known: { Keeps (cycle_table given cycle) kept.place kept.least },
 }
@@ -27,14 +29,15 @@ pub(crate) struct Levels {
 impl Levels {
     // The table of the first `cycle` of the given numbers, over and over.
     pub(crate) fn new(given: &[u8; MAX_CYCLE], cycle: usize) -> Levels
-        requires { (1 ≤ cycle) × (cycle ≤ 512) }
+        requires some { 1 ≤ cycle }
+        requires few { cycle ≤ 512 }
         ensures given { result.given ≡ given.now }
         ensures cycle { result.cycle ≡ cycle }
     {
         let given = *given;
         let mut sums = [LevelSums::NONE; LEVELS];
-        for j in 0..LEVELS {
-            sums[j].fill(&given, cycle, j as u16 + 1);
+        for (j, sums) in sums.iter_mut().enumerate() {
+            sums.fill(&given, cycle, Level::at(j));
         }
         Levels {
             given,
@@ -66,26 +69,26 @@ impl Levels {
     }
 
     // What the first k ticks of the cycle give to a level.
-    fn sum(&self, level: usize, k: usize) -> u16
-        requires { (0 < level) × ((level ≤ 8) × (k ≤ self.now.cycle)) }
-        ensures { result ≡ window level (repeated self.now.given self.now.cycle) 0 k }
+    fn sum(&self, level: Level, k: usize) -> u16
+        requires { k ≤ self.now.cycle }
+        ensures { result ≡ window level.number (repeated self.now.given self.now.cycle) 0 k }
     {
-        self.sums[level - 1].sums[k]
+        self.sums[level.place()].sums[k]
     }
 
     // The window of s ticks from tick x on, which ends within the cycle.
-    fn window_within(&self, level: usize, x: usize, s: usize) -> u16
-        requires { (0 < level) × ((level ≤ 8) × (x + s ≤ self.now.cycle)) }
-        ensures value { result ≡ window level (repeated self.now.given self.now.cycle) x s }
+    fn window_within(&self, level: Level, x: usize, s: usize) -> u16
+        requires { x + s ≤ self.now.cycle }
+        ensures value { result ≡ window level.number (repeated self.now.given self.now.cycle) x s }
         ensures few { result ≤ 4096 }
     {
         self.sum(level, x + s) - self.sum(level, x)
     }
 
     // The least window of s ticks, at most a cycle, over the starts of the cycle.
-    fn least_window(&self, level: usize, s: usize) -> u16
-        requires { (0 < level) × ((level ≤ 8) × (s ≤ self.now.cycle)) }
-        ensures { result ≡ cycle_table self.now.given self.now.cycle level s }
+    fn least_window(&self, level: Level, s: usize) -> u16
+        requires { s ≤ self.now.cycle }
+        ensures { result ≡ cycle_table self.now.given self.now.cycle level.number s }
     {
         // all windows of a whole cycle are the same
         if s == self.cycle {
@@ -112,16 +115,16 @@ impl Levels {
         ensures { (j : ℕ) → j < 8 → slice_index result j ≡ cycle_table self.now.given self.now.cycle (suc j) s }
     {
         let mut least = [0; LEVELS];
-        for j in 0..LEVELS {
-            least[j] = self.least_window(j + 1, s);
+        for (j, least) in least.iter_mut().enumerate() {
+            *least = self.least_window(Level::at(j), s);
         }
         least
     }
 
     // The least window of s ticks: as it was kept, or found now.
-    fn least(&self, level: usize, s: usize) -> u16
-        requires { (0 < level) × ((level ≤ 8) × (s < self.now.cycle)) }
-        ensures { result ≡ cycle_table self.now.given self.now.cycle level s }
+    fn least(&self, level: Level, s: usize) -> u16
+        requires { s < self.now.cycle }
+        ensures { result ≡ cycle_table self.now.given self.now.cycle level.number s }
     {
         match self.kept.get(level, s) {
             Some(least) => least,
@@ -135,10 +138,9 @@ impl Levels {
         ensures least { LeastWindow self.now.given self.now.cycle (min j 8) (min n 8192) result }
         ensures cycles { ByCycles self.now.given self.now.cycle (min j 8) (min n 8192) result }
     {
-        let level = j.min(MAX_LEVEL) as usize;
-        if level == 0 {
+        let Some(level) = Level::new(j) else {
             return 0;
-        }
+        };
         let n = n.min(MAX_LENGTH) as usize;
         let cycles = (n / self.cycle) as u32;
         let whole = u32::from(self.sum(level, self.cycle));

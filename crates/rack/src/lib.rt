@@ -3,6 +3,7 @@
 
 mod counts;
 mod kept;
+mod level;
 mod levels;
 mod running;
 mod slots;

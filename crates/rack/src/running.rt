@@ -3,11 +3,10 @@ ghost use Rattle.std.specs.Prelude.{◌<◌, ◌≤◌};
 ghost use Rattle.rack.specs.Cycle.{repeated};
 ghost use Rattle.rack.specs.Sums.{Summed};
 
+use crate::level::Level;
+
 // the most ticks that a cycle has
 pub(crate) const MAX_CYCLE: usize = 512;
-
-// how many levels have running sums: those from 1 to 8
-pub(crate) const LEVELS: usize = 8;
 
 // one running sum for each number of ticks, from none to a whole cycle
 const SUMS: usize = 513;
@@ -22,13 +21,14 @@ impl LevelSums {
     pub(crate) const NONE: LevelSums = LevelSums { sums: [0; SUMS] };
 
     // Fills in the sums of a level.
-    pub(crate) fn fill(&mut self, given: &[u8; MAX_CYCLE], cycle: usize, level: u16)
-        requires { (0 < cycle) × ((cycle ≤ 512) × (level ≤ 8)) }
-        ensures { Summed level (repeated given.now cycle) cycle self.new.sums }
+    pub(crate) fn fill(&mut self, given: &[u8; MAX_CYCLE], cycle: usize, level: Level)
+        requires some { 0 < cycle }
+        requires few { cycle ≤ 512 }
+        ensures { Summed level.number (repeated given.now cycle) cycle self.new.sums }
     {
         self.sums[0] = 0;
         for k in 0..cycle {
-            self.sums[k + 1] = self.sums[k] + u16::from(given[k]).min(level);
+            self.sums[k + 1] = self.sums[k] + u16::from(given[k]).min(level.number);
         }
     }
 }

@@ -30,10 +30,8 @@ impl SlotRack {
     {
         let mut levels = Levels::new(&counts(plan), plan.cycle());
         // an admission asks for the levels at the deadlines of all tasks held
-        for n in 0..plan.card_count() {
-            if let Some(card) = plan.card(n) {
-                levels.keep(card.deadline());
-            }
+        for card in plan.cards() {
+            levels.keep(card.deadline());
         }
         SlotRack { levels, tick: 0 }
     }

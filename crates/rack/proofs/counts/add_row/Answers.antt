@@ -1,4 +1,4 @@
-use Rattle.std.proofs.Common.{◌≡◌, ◌+◌, length, ◌∙◌, arith}
+use Rattle.std.proofs.Common.{◌+◌, length, ◌∙◌, arith}
 use native.Mathlib.Nat.{add-mod_right}
 use Rattle.plan.specs.Rows.{marks_of}
 use Rattle.rack.specs.Slots.{gives}
@@ -6,7 +6,7 @@ use Rattle.rack.proofs.Counted.{Added, added_on}
 use Rattle.rack.proofs.counts.add_row.Goals as goal
 
 pub add_round-requires-clause-few : goal.add_round-requires-clause-few
-add_round-requires-clause-few c = λ x from h. omega (arith, c.loop-start.invariant.0.left x from, c.requires.1 x (omega arith))
+add_round-requires-clause-few c = λ x from h. omega (arith, c.loop-start.invariant.0.left x from, c.requires.few x (omega arith))
 
 pub loop-start-preserved : goal.loop-start-preserved
 loop-start-preserved c =
@@ -18,4 +18,4 @@ loop-start-preserved c =
     )
 
 pub add_round-requires-2-clause-few : goal.add_round-requires-2-clause-few
-add_round-requires-2-clause-few c = λ x from h. omega (arith, c.loop-start.invariant.0.left x from, c.requires.1 x (omega arith))
+add_round-requires-2-clause-few c = λ x from h. omega (arith, c.loop-start.invariant.0.left x from, c.requires.few x (omega arith))

@@ -5,5 +5,5 @@ use Rattle.rack.proofs.levels.Levels.new.Given as goal
 
 abbrev pub invariant-loop-j : goal.invariant-loop-j
 invariant-loop-j l =
-    ((j : ℕ) → j < l.j → Summed (suc j) (repeated l.given l.cycle) l.cycle (sums_at l.sums j))
-    × (length l.sums ≡ 8)
+    ((j : ℕ) → j < l.j → Summed (suc j) (repeated l.given l.cycle) l.cycle (sums_at l.sums-items j))
+    × (length l.sums-items ≡ 8)

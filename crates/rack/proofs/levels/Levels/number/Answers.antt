@@ -1,4 +1,4 @@
-use Rattle.std.proofs.Common.{arith, ap, ◌≡◌, ◌%◌, min, get_or}
+use Rattle.std.proofs.Common.{arith, ap, get_or}
 use Rattle.rack.proofs.Sums.{repeated_first}
 use Rattle.rack.proofs.levels.Levels.number.Goals as goal
 use Rattle.rack.proofs.levels.Levels.number.Goals.{then-x-self, else-x-self}

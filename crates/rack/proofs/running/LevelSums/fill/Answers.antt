@@ -7,11 +7,11 @@ pub overflow_add-self : goal.overflow_add-self
 overflow_add-self c = omega (
   arith,
   c.loop-k.invariant.0 c.loop-k.k (omega arith),
-  window_small c.args.level (repeated c.args.given.now c.args.cycle) 0 c.loop-k.k (omega arith),
+  window_small c.args.level.number (repeated c.args.given.now c.args.cycle) 0 c.loop-k.k (omega arith),
 )
 
 pub loop-k-init : goal.loop-k-init
-loop-k-init c = (summed_none c.args.level (repeated c.args.given.now c.args.cycle) _ (get_or-set_same c.args.self.now.sums 0 0 0 (omega arith)), search rules)
+loop-k-init c = (summed_none c.args.level.number (repeated c.args.given.now c.args.cycle) _ (get_or-set_same c.args.self.now.sums 0 0 0 (omega arith)), search rules)
 
 pub loop-k-preserved : goal.loop-k-preserved
-loop-k-preserved c = (summed_more c.args.level c.args.cycle c.args.given.now c.loop-k.self.sums c.loop-k.k _ (omega arith) (omega arith) (omega arith) c.loop-k.invariant.0 (omega arith), search rules)
+loop-k-preserved c = (summed_more c.args.level.number c.args.cycle c.args.given.now c.loop-k.self.sums c.loop-k.k _ (omega arith) (omega arith) (omega arith) c.loop-k.invariant.0 (omega arith), search rules)

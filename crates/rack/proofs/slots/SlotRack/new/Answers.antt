@@ -10,13 +10,13 @@ use Rattle.rack.proofs.slots.SlotRack.new.Goals as goal
 pub returns : goal.returns
 returns c =
     let rows : List (List Bool) = (contents c.args.plan.now).rows in
-    let given = c.loop-n.levels.given in
-    let h = c.loop-n.levels.cycle in
+    let given = c.loop-card.levels.given in
+    let h = c.loop-card.levels.cycle in
     let few : length rows ≤ 8 = simp (length-map, length-take) (omega arith) in
-    let same : h ≡ c.cycle.result = c.loop-n.invariant.1 ∙ c.new-levels.ensures.cycle in
+    let same : h ≡ c.cycle.result = c.loop-card.invariant.1 ∙ c.new-levels.ensures.cycle in
     let cycle : h ≡ cycle_of (map length rows) = same ∙ c.cycle.ensures.value in
     let common : LeastCommon (map length rows) h = subst (LeastCommon (map length rows)) (sym same) c.cycle.ensures.least in
-    let counted : (x : ℕ) → x < h → get_or given x 0 ≡ slot_row rows x = λ x l. ap (λ s. get_or s x 0) (c.loop-n.invariant.0 ∙ c.new-levels.ensures.given) ∙ c.counts.ensures x (omega (arith, cycle)) in
+    let counted : (x : ℕ) → x < h → get_or given x 0 ≡ slot_row rows x = λ x l. ap (λ s. get_or s x 0) (c.loop-card.invariant.0 ∙ c.new-levels.ensures.given) ∙ c.counts.ensures x (omega (arith, cycle)) in
     record {
       row = λ x. ap (repeated given h) (zero-add x) ∙ given_is rows given h few cycle common counted x;
       table = table_is rows given h few cycle common counted;

@@ -1,5 +1,5 @@
 use Rattle.std.proofs.Common.{◌≡◌}
 use Rattle.rack.proofs.slots.SlotRack.new.Given as goal
 
-abbrev pub invariant-loop-n : goal.invariant-loop-n
-invariant-loop-n l = (l.levels.given ≡ l.initial.levels.given) × (l.levels.cycle ≡ l.initial.levels.cycle)
+abbrev pub invariant-loop-card : goal.invariant-loop-card
+invariant-loop-card l = (l.levels.given ≡ l.initial.levels.given) × (l.levels.cycle ≡ l.initial.levels.cycle)
