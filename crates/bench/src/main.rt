@@ -6,7 +6,7 @@ use dispatch::Dispatcher;
 use listing::list;
 use plan::Plan;
 use rack::SlotRack;
-use std::time::{Duration, Instant};
+use std::time::Instant;
 use supply::Supply;
 
 // Eight rows of cycle 510, the longest that a plan can have, and 32 tasks, which are all admitted.
@@ -41,10 +41,8 @@ fn list_plans(out: &mut [u8]) -> u64 {
         let length = list(LONG, out).unwrap_or(0);
         sum = mixed(sum, length as u64);
     }
-    for byte in out.iter() {
-        sum = mixed(sum, u64::from(*byte));
-    }
-    sum
+    out.iter()
+        .fold(sum, |sum, byte| mixed(sum, u64::from(*byte)))
 }
 
 // Makes the rack of a plan again and again, and asks one level of each.
@@ -133,65 +131,44 @@ fn busy(plan: &Plan, run: u32, period: u32, spread: u32) -> Dispatcher<SlotRack>
     dispatcher
 }
 
-fn report(
+// Does the work, and reports how long that took.
+fn measure<F: FnOnce() -> u64>(
     rt: &HostRuntime,
     name: &str,
     count: u64,
-    time: Duration,
-    sum: u64,
-) -> anyhow::Result<()> {
-    let nanos = time.as_nanos();
+    work: F,
+) -> anyhow::Result<()>
+    requires { F.IsAlwaysCallable work }
+{
+    let start = Instant::now(rt)?;
+    let sum = work();
+    let nanos = start.elapsed(rt)?.as_nanos();
     eprintln!(rt; "{name}: {count} in {nanos} ns, sum {sum}")?;
     Ok(())
 }
 
 fn measure_racks(rt: &HostRuntime) -> anyhow::Result<()> {
     let mut out = [0; 512];
-    let start = Instant::now(rt)?;
-    let sum = list_plans(&mut out);
-    report(rt, "plans listed", LISTINGS, start.elapsed(rt)?, sum)?;
+    measure(rt, "plans listed", LISTINGS, || list_plans(&mut out))?;
     let mut plan = Plan::idle();
     let _ = plan.read(LONG);
-    let start = Instant::now(rt)?;
-    let sum = make_racks(&plan);
-    report(rt, "racks made", RACKS, start.elapsed(rt)?, sum)?;
-    let start = Instant::now(rt)?;
-    let sum = question_racks(&plan);
-    report(
-        rt,
-        "racks made and asked 256 levels",
-        QUESTIONED_RACKS,
-        start.elapsed(rt)?,
-        sum,
-    )?;
-    let start = Instant::now(rt)?;
-    let sum = ask_levels(&plan);
-    report(rt, "levels asked", LEVEL_QUESTIONS, start.elapsed(rt)?, sum)
+    measure(rt, "racks made", RACKS, || make_racks(&plan))?;
+    let name = "racks made and asked 256 levels";
+    measure(rt, name, QUESTIONED_RACKS, || question_racks(&plan))?;
+    measure(rt, "levels asked", LEVEL_QUESTIONS, || ask_levels(&plan))
 }
 
 fn measure_ticks(rt: &HostRuntime) -> anyhow::Result<()> {
     let mut plan = Plan::idle();
     let _ = plan.read(SHORT);
     let mut dispatcher = busy(&plan, 7, 64, 16);
-    let start = Instant::now(rt)?;
-    let sum = ticks_in_bursts(&mut dispatcher);
-    report(
-        rt,
-        "ticks, releases in bursts",
-        TICKS,
-        start.elapsed(rt)?,
-        sum,
-    )?;
+    measure(rt, "ticks, releases in bursts", TICKS, || {
+        ticks_in_bursts(&mut dispatcher)
+    })?;
     let mut dispatcher = busy(&plan, 3, 32, 8);
-    let start = Instant::now(rt)?;
-    let sum = steady_ticks(&mut dispatcher);
-    report(
-        rt,
-        "ticks, a release before each",
-        TICKS,
-        start.elapsed(rt)?,
-        sum,
-    )
+    measure(rt, "ticks, a release before each", TICKS, || {
+        steady_ticks(&mut dispatcher)
+    })
 }
 
 fn run(rt: &HostRuntime) -> anyhow::Result<()> {

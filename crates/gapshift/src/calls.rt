@@ -1,11 +1,29 @@
 // Calls as they are written, one a line.
 use schedule::Call;
+use std::alloc::{AllocError, Global};
+
+// The most calls that one shift may have.
+const MAX_CALLS: usize = 4_000_000;
+
+// Why the calls of a text are not carried out.
+#[derive(Debug, Drop)]
+pub(crate) enum ReadError {
+    // a line cannot be read, or makes too many calls
+    Line(u64),
+    Memory(AllocError),
+}
+
+impl From<AllocError> for ReadError {
+    fn from(error: AllocError) -> ReadError {
+        ReadError::Memory(error)
+    }
+}
 
 // A line of calls: the call, and how many times it is made.
 #[derive(Clone, Copy)]
-pub(crate) struct Step {
-    pub(crate) call: Call,
-    pub(crate) times: u32,
+struct Step {
+    call: Call,
+    times: u32,
 }
 
 fn once(call: Call) -> Option<Step> {
@@ -52,7 +70,7 @@ fn ticks(s: &[u8]) -> Option<Step> {
 }
 
 // What a line of calls says; none, where it cannot be read.
-pub(crate) fn parse(line: &[u8]) -> Option<Step> {
+fn parse(line: &[u8]) -> Option<Step> {
     let Some((word, rest)) = text::cut(line, b',') else {
         return match line {
             b"tick" => once(Call::Tick),
@@ -71,4 +89,20 @@ pub(crate) fn parse(line: &[u8]) -> Option<Step> {
         b"tick" => ticks(rest),
         _ => None,
     }
+}
+
+// The calls of a text, each as often as it is made, or the first line that cannot be read. The last line may lack its byte 10.
+pub(crate) fn read(heap: Global, text: &[u8]) -> Result<Vec<Call>, ReadError> {
+    let mut calls = Vec::new(heap);
+    let mut number: u64 = 0;
+    for line in text.split_inclusive(|b| *b == b'\n') {
+        number = number.saturating_add(1);
+        let step = parse(line.strip_suffix(b"\n").unwrap_or(line)).ok_or(ReadError::Line(number))?;
+        let count = calls.len().saturating_add(step.times as usize);
+        if count > MAX_CALLS {
+            return Err(ReadError::Line(number));
+        }
+        calls.resize(count, step.call)?;
+    }
+    Ok(calls)
 }
