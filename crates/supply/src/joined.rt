@@ -23,7 +23,9 @@ impl<P: Supply, Q: Supply> Joined<P, Q> {
 
     // What is sure in n ticks, where i of j processors are counted on in the first and the others in the second.
     fn parting(&self, j: u32, n: u32, i: u32) -> u32
-        requires { (i ≤ j) × ((j ≤ 8) × (n ≤ 8192)) }
+        requires part { i ≤ j }
+        requires level { j ≤ 8 }
+        requires length { n ≤ 8192 }
         ensures { result ≡ parted (P.Supply.table self.now.first) (Q.Supply.table self.now.second) j n i }
     {
         self.first.level(i, n) + self.second.level(j - i, n)
@@ -50,10 +52,6 @@ impl<P: Supply, Q: Supply> Supply for Joined<P, Q> {
     {
         let j = j.min(MAX_LEVEL);
         let n = n.min(MAX_LENGTH);
-        let mut best = 0;
-        for i in 0..=j {
-            best = best.max(self.parting(j, n, i));
-        }
-        best
+        (0..j + 1).map(|i| self.parting(j, n, i)).max().unwrap_or(0)
     }
 }

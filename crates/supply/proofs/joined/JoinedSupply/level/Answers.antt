@@ -1,28 +1,20 @@
-use Rattle.std.proofs.Common.{add-one, arith, rules}
-use Rattle.supply.specs.Supplies.{greatest}
-use Rattle.supply.specs.Greatest.{greatest_suc}
+use Rattle.std.proofs.Common.{ℕ, ◌+◌, unwrap_or, refl, ap, ◌∙◌, add-one, arith, rules}
+use Rattle.std.proofs.lemmas.Iterator.{YieldsList-from_range, YieldsList-from_map}
+use Rattle.std.proofs.lemmas.Iterator.Consumers.{YieldsList-at, reduce_from_yields_List}
+use Rattle.std.proofs.lemmas.List.Folds.{max_of_map}
+use Rattle.std.specs.List.{range_with_len}
+use Rattle.supply.specs.Supplies.{greatest, parted}
 use Rattle.supply.specs.Windows.{parted_all}
+use Rattle.supply.proofs.Folded.{folded}
 use Rattle.supply.proofs.joined.JoinedSupply.level.Goals as goal
 
-pub loop-i-init : goal.loop-i-init
-unfolding greatest
-loop-i-init g c = search rules
-
-pub loop-i-preserved : goal.loop-i-preserved
-loop-i-preserved g c = rw (add-one, greatest_suc) (search rules)
-
-pub returns-2 : goal.returns-2
-returns-2 g c =
-    parted_all
-    (g.P.Supply.table c.args.self.now.first)
-    (g.Q.Supply.table c.args.self.now.second)
-    c.args.j
-    c.args.n
-    c.min-j.result
-    c.min-n.result
-    c.loop-i.i
-    c.max-best.result
-    (omega arith)
-    (omega arith)
-    (omega arith)
-    (rw greatest_suc (search rules))
+pub returns : goal.returns
+returns g c =
+    let first = g.P.Supply.table c.args.self.now.first in
+    let second = g.Q.Supply.table c.args.self.now.second in
+    let h : ℕ → ℕ = parted first second c.min-j.result c.min-n.result in
+    let most =
+    reduce_from_yields_List _ c.map.result c.max.result c.max.ensures.ran
+    (YieldsList-from_map _ h (YieldsList-at c.map.ensures.source (YieldsList-from_range 0 (c.min-j.result + 1) (c.min-j.result + 1) refl (omega arith))) c.map.ensures.closure (λ x r q k. search rules)) in
+    parted_all first second c.args.j c.args.n c.min-j.result c.min-n.result c.min-j.result c.unwrap_or.result c.min-j.ensures c.min-n.ensures refl
+    (c.unwrap_or.ensures ∙ ap (λ o. unwrap_or o 0) most ∙ max_of_map h (range_with_len 0 (c.min-j.result + 1)) ∙ folded h (c.min-j.result + 1) ∙ ap (greatest h) (add-one c.min-j.result))
