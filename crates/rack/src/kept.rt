@@ -1,68 +1,61 @@
 // Least windows that were found once and are kept.
-ghost use Rattle.std.specs.Prelude.{◌≡◌, ℕ, suc, ◌<◌, ◌≤◌, true, Some, slice_index};
-ghost use Rattle.rack.specs.Kept.{kept_at, Keeps};
+ghost use Rattle.std.specs.Prelude.{◌≡◌, ℕ, suc, ◌<◌, true, length, is_some, None, Some, slice_index};
+ghost use Rattle.fixed.specs.Listed.{listed};
+ghost use Rattle.rack.specs.Kept.{place_of, Keeps};
 
 use crate::level::{LEVELS, Level};
 use crate::running::MAX_CYCLE;
+use fixed::FixedList;
 
 // the most lengths that have a place: one for each card of a plan
-const MAX_KEPT: u8 = 32;
-
-// places are counted from 1, and 0 stands for none
-const PLACES: usize = 33;
+const MAX_KEPT: usize = 32;
 
 #[derive(Drop)]
 pub(crate) struct Kept {
-    // by a length below the cycle, the place of its least windows; 0 where they are not kept
-    place: [u8; MAX_CYCLE],
-    // how many places are taken
-    taken: u8,
+    // by a length below the cycle, the place of its least windows, if they are kept; the windows themselves would take
+    // nine times as much of the stack here
+    place: [Option<u8>; MAX_CYCLE],
     // by place, the least windows at the levels from 1 to 8
-    least: [[u16; LEVELS]; PLACES],
-    ghost few: { taken ≤ 32 },
-    ghost placed: { (s : ℕ) → slice_index place s ≤ taken },
+    least: FixedList<[u16; LEVELS], MAX_KEPT>,
+    ghost placed: { (s p : ℕ) → place_of place s ≡ Some p → p < length (listed least) },
 }
 
 impl Kept {
     // Nothing is kept yet.
     pub(crate) fn none() -> Kept
-        ensures { (s : ℕ) → slice_index result.place s ≡ 0 }
+        ensures { (s : ℕ) → place_of result.place s ≡ None }
     {
         Kept {
-            place: [0; MAX_CYCLE],
-            taken: 0,
-            least: [[0; LEVELS]; PLACES],
+            place: [None; MAX_CYCLE],
+            least: FixedList::filled_with([0; LEVELS]),
         }
     }
 
-    // Whether a length has no place yet and there is one left.
-    pub(crate) fn has_room(&self, s: usize) -> bool
+    // Whether the least windows of s ticks are kept.
+    pub(crate) fn holds(&self, s: usize) -> bool
         requires { s < 512 }
-        ensures { result ≡ true → self.now.taken < 32 }
+        ensures { result ≡ is_some (place_of self.now.place s) }
     {
-        self.place[s] == 0 && self.taken < MAX_KEPT
+        self.place[s].is_some()
     }
 
     // The least window of s ticks that is kept for a level.
     pub(crate) fn get(&self, level: Level, s: usize) -> Option<u16>
         requires { s < 512 }
-        ensures { (table : ℕ → ℕ → ℕ) (m : ℕ) → Keeps table self.now.place self.now.least → result ≡ Some m → m ≡ table level.number s }
+        ensures { (table : ℕ → ℕ → ℕ) (m : ℕ) → Keeps table self.now.place (listed self.now.least) → result ≡ Some m → m ≡ table level.number s }
     {
-        let place = usize::from(self.place[s]);
-        if place == 0 {
-            return None;
-        }
-        Some(self.least[place][level.place()])
+        let place = self.place[s]?;
+        Some(self.least.as_slice()[usize::from(place)][level.place()])
     }
 
-    // Keeps the least windows of s ticks.
+    // Keeps the least windows of s ticks, if there is a place left.
     pub(crate) fn put(&mut self, s: usize, least: [u16; LEVELS])
-        requires within { s < 512 }
-        requires room { self.old.taken < 32 }
-        ensures { (table : ℕ → ℕ → ℕ) → Keeps table self.old.place self.old.least → ((j : ℕ) → j < 8 → slice_index least j ≡ table (suc j) s) → Keeps table self.new.place self.new.least }
+        requires { s < 512 }
+        ensures { (table : ℕ → ℕ → ℕ) → Keeps table self.old.place (listed self.old.least) → ((j : ℕ) → j < 8 → slice_index least j ≡ table (suc j) s) → Keeps table self.new.place (listed self.new.least) }
     {
-        self.taken += 1;
-        self.least[usize::from(self.taken)] = least;
-        self.place[s] = self.taken;
+        let place = self.least.len() as u8;
+        if self.least.push(least).is_ok() {
+            self.place[s] = Some(place);
+        }
     }
 }

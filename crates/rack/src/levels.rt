@@ -1,5 +1,6 @@
 // The level table of a cycle: what every stretch of ticks is sure to contain, found from running sums.
 ghost use Rattle.std.specs.Prelude.{◌≡◌, ℕ, suc, ◌+◌, ◌<◌, ◌≤◌, min, length, slice_index};
+ghost use Rattle.fixed.specs.Listed.{listed};
 ghost use Rattle.supply.specs.Window.{window};
 ghost use Rattle.rack.specs.Cycle.{repeated, cycle_table, LeastWindow, ByCycles};
 ghost use Rattle.rack.specs.Kept.{Keeps};
@@ -23,7 +24,7 @@ pub(crate) struct Levels {
     ghost some: { 0 < cycle },
     ghost few: { cycle ≤ 512 },
     ghost summed: { (j k : ℕ) → (j < 8) × (k ≤ cycle) → slice_index (sums_at sums j) k ≡ window (suc j) (repeated given cycle) 0 k },
-    ghost known: { Keeps (cycle_table given cycle) kept.place kept.least },
+    ghost known: { Keeps (cycle_table given cycle) kept.place (listed kept.least) },
 }
 
 impl Levels {
@@ -53,7 +54,7 @@ impl Levels {
         ensures cycle { self.new.cycle ≡ self.old.cycle }
     {
         let s = length as usize % self.cycle;
-        if self.kept.has_room(s) {
+        if !self.kept.holds(s) {
             let least = self.least_windows(s);
             self.kept.put(s, least);
         }

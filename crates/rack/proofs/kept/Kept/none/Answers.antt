@@ -1,6 +1,8 @@
-use Rattle.std.proofs.Common.{arith}
-use Rattle.rack.proofs.Counted.{zeros}
+use Rattle.rack.proofs.Places.{none_placed}
 use Rattle.rack.proofs.kept.Kept.none.Goals as goal
 
 pub invariant_of-result : goal.invariant_of-result
-invariant_of-result c = record { few = omega arith; placed = (λ s. omega (arith, zeros 512 s)) }
+invariant_of-result c = record { placed = λ s p e. absurd (cc (none_placed 512 s, e)) }
+
+pub returns : goal.returns
+returns c = none_placed 512
