@@ -1,20 +1,18 @@
 -- The lines of tasks, one after another. Assumes nothing.
-use Rattle.std.proofs.Common.{◌≡◌, ℕ, ◌+◌, ◌≤◌, List, [], ◌++◌, length, drop, Some, ap, ◌∙◌}
+use Rattle.std.proofs.Common.{◌≡◌, ℕ, ◌+◌, ◌<◌, ◌≤◌, List, [], ◌++◌, map, length, get_or, drop, sym, ap, ◌∙◌}
 use Rattle.std.proofs.lemmas.List.{at_drop_more, at_drop_all}
-use Rattle.std.specs.List.{slice_get}
-use Rattle.plan.proofs.Taken.{nth_some}
 use Rattle.schedule.specs.Calls.{answer, after}
 use Rattle.schedule.specs.State.{State}
-use Rattle.task.specs.Task.{Task}
+use Rattle.task.specs.Task.{task_of}
+use Rattle.task.specs.declared.card.Card.{Card}
 use Rattle.listing.specs.Listing.{admission, task_line, task_lines}
 
-pub lines_more : (s : State) (ts : List Task) (n : ℕ) (t : Task) → Some t ≡ slice_get ts n → task_lines s (drop n ts) ≡ task_line t.id (answer s (admission t)) ++ task_lines (after s (admission t)) (drop (n + 1) ts)
+pub lines_more : (s : State) (cards : List Card) (n : ℕ) (card : Card) → n < length cards → card ≡ get_or cards n card → task_lines s (map task_of (drop n cards)) ≡ task_line (task_of card).id (answer s (admission (task_of card))) ++ task_lines (after s (admission (task_of card))) (map task_of (drop (n + 1) cards))
 unfolding task_lines
-lines_more s ts n t is =
-    let there = nth_some ts n t is in
-    at_drop_more (task_lines s) ts n t there.0
-    ∙ ap (λ u. task_line u.id (answer s (admission u)) ++ task_lines (after s (admission u)) (drop (n + 1) ts)) there.1
+lines_more s cards n card inside is =
+    at_drop_more (λ l. task_lines s (map task_of l)) cards n card inside
+    ∙ ap (λ c. task_line (task_of c).id (answer s (admission (task_of c))) ++ task_lines (after s (admission (task_of c))) (map task_of (drop (n + 1) cards))) (sym is)
 
-pub lines_done : (s : State) (ts : List Task) (n : ℕ) → length ts ≤ n → task_lines s (drop n ts) ≡ []
+pub lines_done : (s : State) (cards : List Card) (n : ℕ) → length cards ≤ n → task_lines s (map task_of (drop n cards)) ≡ []
 unfolding task_lines
-lines_done s ts n past = at_drop_all (task_lines s) ts n past
+lines_done s cards n past = at_drop_all (λ l. task_lines s (map task_of l)) cards n past

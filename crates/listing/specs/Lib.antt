@@ -1,4 +1,4 @@
 pub mod Laid
-pub mod Pieces
+pub mod Pages
 pub mod Listing
 pub mod Refusals

@@ -2,10 +2,9 @@
 #![tactic(auto)]
 
 mod entry;
-mod lines;
 mod listings;
+mod page;
 mod refusal;
-mod writer;
 
 pub use entry::gap_listing;
 pub use listings::list;

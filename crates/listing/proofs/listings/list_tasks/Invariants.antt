@@ -1,11 +1,12 @@
-use Rattle.std.proofs.Common.{◌+◌, ◌*◌, ◌≤◌, drop}
+use Rattle.std.proofs.Common.{◌≡◌, ◌++◌, map, drop}
 use Rattle.dispatch.specs.Dispatcher.{state_of}
-use Rattle.plan.specs.Contents.{contents}
+use Rattle.task.specs.Task.{task_of}
 use Rattle.listing.specs.Listing.{task_lines}
-use Rattle.listing.proofs.Laying.{Writing}
+use Rattle.listing.specs.Pages.{written, cut}
 use Rattle.listing.proofs.listings.list_tasks.Given as goal
 
-abbrev pub invariant-loop-n : goal.invariant-loop-n
-invariant-loop-n g l =
-    Writing l.at (task_lines (state_of g.S.Supply.row g.S.Supply.table l.initial.dispatcher) (contents l.plan).tasks) l.initial.out l.end (task_lines (state_of g.S.Supply.row g.S.Supply.table l.dispatcher) (drop l.n (contents l.plan).tasks)) l.out
-    × (l.end ≤ 11 + 9 * l.n)
+-- what is written and what is still to come are all lines
+abbrev pub invariant-loop-card : goal.invariant-loop-card
+invariant-loop-card g l =
+    cut (written l.page ++ task_lines (state_of g.S.Supply.row g.S.Supply.table l.dispatcher) (map task_of (drop l.card-index l.cards)))
+    ≡ cut (written l.initial.page ++ task_lines (state_of g.S.Supply.row g.S.Supply.table l.initial.dispatcher) (map task_of l.cards))
