@@ -29,10 +29,10 @@ fn list_task<S: Supply>(dispatcher: &mut Dispatcher<S>, card: &Card, page: &mut 
     let id = card.id();
     match dispatcher.admit(id, card.run(), card.period(), card.deadline()) {
         Ok(level) => page.put_line(Number(id), &[Word(b"yes"), Number(level)]),
-        Err(refusal) => {
-            let task = refusal.task().unwrap_or(0);
-            page.put_line(Number(id), &[Word(b"no"), Number(task)]);
-        }
+        Err(refusal) => page.put_line(
+            Number(id),
+            &[Word(b"no"), Number(refusal.task().unwrap_or(0))],
+        ),
     }
 }
 

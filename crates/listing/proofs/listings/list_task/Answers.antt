@@ -27,8 +27,8 @@ returns-in-Err g c =
     let t = task_of c.args.card.now in
     let call : Admit c.id-id.result c.run.result c.period.result c.deadline.result ≡ admission t = λ i. Admit (c.id-id.ensures i) (c.run.ensures i) (c.period.ensures i) (c.deadline.ensures i) in
     let said : Refused c.in-Err.refusal ≡ answer s (admission t) = c.in-Err.ensures.answer ∙ ap (answer s) call in
-    let named : c.unwrap_or-task.result ≡ unwrap_or (task_named c.in-Err.refusal) 0 = c.unwrap_or-task.ensures ∙ ap (λ o. unwrap_or o 0) c.task.ensures in
-    let line : no_line c.id-id.result c.unwrap_or-task.result ≡ task_line t.id (answer s (admission t)) = (λ i. no_line (c.id-id.ensures i) (named i)) ∙ ap (task_line t.id) said in
+    let named : c.unwrap_or.result ≡ unwrap_or (task_named c.in-Err.refusal) 0 = c.unwrap_or.ensures ∙ ap (λ o. unwrap_or o 0) c.task.ensures in
+    let line : no_line c.id-id.result c.unwrap_or.result ≡ task_line t.id (answer s (admission t)) = (λ i. no_line (c.id-id.ensures i) (named i)) ∙ ap (task_line t.id) said in
     record {
       text = c.put_line-in-Err.ensures ∙ ap (λ l. cut (written c.args.page.now ++ l)) line;
       state = c.in-Err.ensures.after ∙ ap (after s) call;
