@@ -1,5 +1,8 @@
-ghost use Rattle.std.specs.Prelude.{◌≡◌};
-ghost use Rattle.listing.specs.Refusals.{number_of};
+ghost use Rattle.std.specs.Prelude.{◌≡◌, Some};
+ghost use Rattle.listing.specs.Refusals.{number_of, text_of};
+
+use std::error::Error;
+use std::fmt;
 
 // Why nothing is listed.
 #[derive(Clone, Copy, PartialEq, Eq, Debug)]
@@ -20,3 +23,15 @@ impl ListingRefusal {
         }
     }
 }
+
+impl fmt::Display for ListingRefusal {
+    ghost output = { λ r. Some (text_of r) };
+
+    fn fmt<W: fmt::Write>(&self, f: &mut fmt::Formatter<W>) -> fmt::Result {
+        match self {
+            ListingRefusal::BufferTooSmall => f.write_str("a buffer that is too small"),
+        }
+    }
+}
+
+impl Error for ListingRefusal {}
