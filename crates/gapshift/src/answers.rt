@@ -1,4 +1,7 @@
 // Answers as they are written, one a line.
+ghost use Rattle.std.specs.Prelude.{Some};
+ghost use Rattle.gapshift.specs.Lines.{answer_text};
+
 use schedule::Answer;
 use std::fmt;
 
@@ -7,6 +10,8 @@ use std::fmt;
 pub(crate) struct AnswerLine(pub(crate) Answer);
 
 impl fmt::Display for AnswerLine {
+    ghost output = { λ l. Some (answer_text l.0) };
+
     fn fmt<W: fmt::Write>(&self, f: &mut fmt::Formatter<W>) -> fmt::Result {
         match self.0 {
             Answer::Level(level) => write!(f, "level,{level}"),
