@@ -1,22 +1,12 @@
--- Items written into the free places. Assumes nothing.
-use Rattle.std.proofs.Common.{◌≡◌, ℕ, ◌+◌, ◌-◌, ◌≤◌, min, List, ◌++◌, length, take, sym, ap, ◌∙◌, arith}
-use Rattle.std.proofs.Math.Seq.{take-append-add}
-use Rattle.std.proofs.lemmas.List.{length-take, length-take-le, take_min}
-use Rattle.std.proofs.lemmas.Slice.{take-put_mid}
-use borrow.Rule.Slice.PartMut.{put_mid}
+-- Items that are added one by one, as far as there is room. Assumes nothing.
+use Rattle.std.proofs.Common.{◌≡◌, ℕ, ◌+◌, ◌<◌, ◌≤◌, List, [], ◌∷◌, ◌++◌, length, get_or, take, drop, sym, ap, ◌∙◌}
+use Rattle.std.proofs.lemmas.List.{append_assoc, append-nil, take_all, at_drop_more, at_drop_all}
 
-module _ {T : Type 0} (items more : List T) (count n : ℕ) (full : length items ≡ n) (within : count ≤ n) where
-  -- the used places and as many more as there is room for
-  front : take count items ++ take (n - count) more ≡ take n (take count items ++ more)
-  front =
-      let used : length (take count items) ≡ count = length-take-le count items (omega arith) in
-      let whole : length (take count items) + (n - count) ≡ n = omega arith in
-      sym (take-append-add (take count items) more (n - count)) ∙ ap (λ k. take k (take count items ++ more)) whole
+module _ {T : Type 0} (n : ℕ) (held more : List T) (i : ℕ) where
+  pub one_more : (x : T) → i < length more → x ≡ get_or more i x → take n ((held ++ x ∷ []) ++ drop (i + 1) more) ≡ take n (held ++ drop i more)
+  one_more x inside is =
+      let next : x ∷ drop (i + 1) more ≡ drop i more = ap (λ y. y ∷ drop (i + 1) more) is ∙ sym (at_drop_more (λ l. l) more i x inside) in
+      ap (take n) (append_assoc held (x ∷ []) (drop (i + 1) more) ∙ ap (λ l. held ++ l) next)
 
-  pub written : (taken k : ℕ) (new : List T) → taken ≡ min (length more) (n - count) → new ≡ take taken more → take (count + taken) (put_mid count k items new) ≡ take n (take count items ++ more)
-  written taken k new fits is =
-      let long : length new ≡ taken = omega (arith, ap length is, length-take taken more) in
-      let same : taken ≡ min (n - count) (length more) = omega arith in
-      take-put_mid count k items new (count + taken) (omega arith) (omega arith)
-      ∙ ap (λ l. take count items ++ l) (is ∙ ap (λ j. take j more) same ∙ take_min (n - count) more)
-      ∙ front
+  pub no_more : length held ≤ n → length more ≤ i → take n (held ++ drop i more) ≡ held
+  no_more few past = ap (λ l. take n (held ++ l)) (at_drop_all (λ l. l) more i past) ∙ ap (take n) (append-nil held) ∙ take_all n held few

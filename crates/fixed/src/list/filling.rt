@@ -48,9 +48,11 @@ impl<T: Copy, const N: usize> FixedList<T, N> {
     pub fn fill_from(&mut self, more: &[T])
         ensures { listed self.new ≡ take N (listed self.old ++ more.now) }
     {
-        let taken = more.len().min(N - self.count);
-        let places = &mut self.items[..];
-        places[self.count..self.count + taken].copy_from_slice(&more[..taken]);
-        self.count += taken;
+        // one by one: `copy_from_slice` is a `memmove`, which a C program's build need not have
+        for item in more {
+            let Ok(()) = self.push(*item) else {
+                break;
+            };
+        }
     }
 }
