@@ -3,4 +3,5 @@ pub mod Cycles
 pub mod Distinct
 pub mod Taken
 pub mod Onward
+pub mod Ended
 pub mod Lawfulness

@@ -1,6 +1,6 @@
 -- One line after another. Assumes nothing.
-use Rattle.std.proofs.Common.{◌≡◌, ℕ, ◌+◌, ◌≤◌, List, [], ◌∷◌, length, Ok, Err, sym, ap, ◌∙◌, arith}
-use Rattle.std.proofs.lemmas.Bool.{le-leb}
+use Rattle.std.proofs.Common.{◌≡◌, ℕ, ◌+◌, ◌<◌, ◌≤◌, List, [], ◌∷◌, length, Ok, Err, sym, refl, ap, ◌∙◌, arith}
+use Rattle.std.proofs.lemmas.Bool.{le-leb, lt-leb, ne_eqb}
 use Rattle.text.specs.Bytes.{parts}
 use Rattle.text.proofs.Parts.{parts_some}
 use Rattle.plan.specs.declared.fault.Cause.TheVariants.{LineNotEnded}
@@ -29,3 +29,15 @@ module _ (line : ℕ) (so : Contents) (text one behind : List ℕ) (cut : parts 
 
   pub next_line : (k : Content) (more : Contents) → Ok k ≡ content line (parts 44 one) → Ok more ≡ with_content so k → with_lines line so (parts 10 text) ≡ with_lines (line + 1) more (parts 10 behind)
   next_line k more e g = after k e ∙ ap (λ r. and_then r (λ m. with_lines (line + 1) m (parts 10 behind))) (sym g)
+
+-- ---- a line that is at fault itself
+
+pub bad_end : (line : ℕ) (so : Contents) (text : List ℕ) → parts 10 text ≡ text ∷ [] → 0 < length text → with_lines line so (parts 10 text) ≡ Err (at LineNotEnded line 0)
+bad_end line so text all some = ap (with_lines line so) all ∙ rw (ne_eqb (length text) 0 (λ e. omega arith)) refl
+
+pub too_long : (line : ℕ) (so : Contents) (text one behind : List ℕ) → parts 10 text ≡ one ∷ parts 10 behind → 96 < length one → with_lines line so (parts 10 text) ≡ Err (at LineNotEnded line 0)
+too_long line so text one behind cut long = ap (with_lines line so) cut ∙ go (parts 10 behind) (parts_some 10 behind)
+  where
+    go : (ps : List (List ℕ)) → 1 ≤ length ps → with_lines line so (one ∷ ps) ≡ Err (at LineNotEnded line 0)
+    go [] none = absurd (omega arith)
+    go (p ∷ ps) more = rw (lt-leb (length one) 96 long) refl

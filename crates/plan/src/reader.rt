@@ -1,7 +1,7 @@
 // A whole plan text: its lines one after another.
-ghost use Rattle.std.specs.Prelude.{◌≡◌, ◌<◌, ◌≤◌, true, length, is_err};
+ghost use Rattle.std.specs.Prelude.{◌≡◌, ◌≤◌, true, length, is_err};
 ghost use Rattle.text.specs.Bytes.{parts};
-ghost use Rattle.plan.specs.Contents.{drafted, contents, said, Onward};
+ghost use Rattle.plan.specs.Contents.{drafted, contents, said};
 ghost use Rattle.plan.specs.Reading.{empty, with_lines, reading};
 
 use crate::draft::Draft;
@@ -13,31 +13,20 @@ const MAX_TEXT: usize = 8192;
 
 const MAX_LINE: usize = 96;
 
-const NEWLINE: u8 = 10;
-
-// Takes up the first line of `rest` and hands back what stands behind it.
-fn take_line<'a>(draft: &mut Draft, rest: &'a [u8], line: u32) -> Result<&'a [u8], Fault>
-    requires { 1 ≤ length rest.now }
-    ensures { Onward line (drafted draft.old) rest.now (drafted draft.new) result }
-{
-    let (bytes, behind) = text::cut(rest, NEWLINE)
-        .filter(|(bytes, _)| bytes.len() <= MAX_LINE)
-        .ok_or(Fault::at(Cause::LineNotEnded, line, 0))?;
-    let fields = fields::parse(bytes, line)?;
-    draft.take_line(fields)?;
-    Ok(behind)
-}
+const NEWLINE: u8 = b'\n';
 
 // What the lines say.
 fn take_lines(draft: &mut Draft, text: &[u8]) -> Result<(), Fault>
     requires { length text.now ≤ 8192 }
     ensures { said result (drafted draft.new) ≡ with_lines 1 (drafted draft.old) (parts 10 text.now) }
 {
-    let mut rest = text;
-    let mut line: u32 = 1;
-    while !rest.is_empty() {
-        rest = take_line(draft, rest, line)?;
-        line += 1;
+    for (i, ended) in text.split_inclusive(|b| *b == NEWLINE).enumerate() {
+        let line = i as u32 + 1;
+        let bytes = ended
+            .strip_suffix(&[NEWLINE])
+            .filter(|bytes| bytes.len() <= MAX_LINE)
+            .ok_or(Fault::at(Cause::LineNotEnded, line, 0))?;
+        draft.take_line(fields::parse(bytes, line)?)?;
     }
     Ok(())
 }

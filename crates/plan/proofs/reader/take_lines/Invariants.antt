@@ -4,9 +4,8 @@ use Rattle.plan.specs.Contents.{drafted}
 use Rattle.plan.specs.Reading.{with_lines}
 use Rattle.plan.proofs.reader.take_lines.Given as goal
 
-abbrev pub invariant-loop-rest : goal.invariant-loop-rest
-invariant-loop-rest l =
-    (with_lines l.line (drafted l.draft) (parts 10 l.rest) ≡ with_lines 1 (drafted l.initial.draft) (parts 10 l.text)) × (l.line + length l.rest ≤ 8193)
-
-abbrev pub decreases-loop-rest : goal.decreases-loop-rest
-decreases-loop-rest l = length l.rest
+-- what the lines that are left say is what all of them say
+abbrev pub invariant-loop-i : goal.invariant-loop-i
+invariant-loop-i l =
+    let left = l.i-iterator.iter.rest.now in
+    (with_lines (l.i-iterator.count + 1) (drafted l.draft) (parts 10 left) ≡ with_lines 1 (drafted l.initial.draft) (parts 10 l.text)) × (l.i-iterator.count + length left ≤ 8192)
