@@ -92,6 +92,7 @@ impl Draft {
         }
         // the number, the period and the deadline have passed: what no card has then is the run time
         let card = Card::new(id, c, t, d).ok_or(run.fault(Cause::TaskTimes))?;
+        // the number is free, as was asked above
         self.cards.push(card).ok_or(number.fault(Cause::TaskNumber))
     }
 }

@@ -50,6 +50,8 @@ mod tests {
         assert_eq!(rt; card.period(), 4096);
         assert_eq!(rt; card.deadline(), 2);
         assert!(rt; plan.card(2).is_none());
+        assert_eq!(rt; plan.rows().len(), 2);
+        assert_eq!(rt; plan.cards().len(), 2);
         Ok(())
     }
 
