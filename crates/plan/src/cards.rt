@@ -7,9 +7,11 @@ use task::Card;
 
 mod filling;
 
+const CARDS: usize = 32;
+
 // Up to 32 cards of distinct numbers, in the order of their lines.
 #[derive(Clone, Copy)]
 pub(crate) struct CardList {
-    cards: FixedList<Card, 32>,
+    cards: FixedList<Card, CARDS>,
     ghost numbered: { distinct (ids_in (listed cards)) ≡ true },
 }

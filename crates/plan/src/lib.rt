@@ -50,9 +50,19 @@ mod tests {
         assert_eq!(rt; card.period(), 4096);
         assert_eq!(rt; card.deadline(), 2);
         assert!(rt; plan.card(2).is_none());
-        assert_eq!(rt; plan.rows().len(), 2);
-        assert_eq!(rt; plan.cards().len(), 2);
         Ok(())
+    }
+
+    #[test]
+    fn rows_and_cards_are_lent(rt: HostRuntime) {
+        let mut plan = Plan::idle();
+        assert_eq!(rt; plan.rows().len(), 1);
+        assert!(rt; plan.cards().is_empty());
+        assert!(rt; plan.read(RACK).is_ok());
+        assert_eq!(rt; plan.rows().len(), 2);
+        assert_eq!(rt; plan.rows()[1].period(), 8);
+        assert_eq!(rt; plan.cards().len(), 2);
+        assert_eq!(rt; plan.cards()[1].id(), 31);
     }
 
     #[test]
