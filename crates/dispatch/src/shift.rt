@@ -3,39 +3,12 @@ ghost use Rattle.std.specs.Prelude.{◌≡◌, min, length, take, drop};
 ghost use Rattle.schedule.specs.State.{fresh};
 ghost use Rattle.schedule.specs.Calls.{answer, after};
 ghost use Rattle.schedule.specs.Shift.{shift, ShiftLaw};
-ghost use Rattle.dispatch.specs.Dispatcher.{state_of, level_answer, pass_answer, tick_answer};
+ghost use Rattle.dispatch.specs.Dispatcher.{state_of};
 ghost use Rattle.dispatch.specs.Entries.{entries_of};
 
 use crate::Dispatcher;
-use schedule::{Answer, Call, Refusal};
+use schedule::{Answer, Call};
 use supply::Supply;
-
-fn level_answer(res: Result<u32, Refusal>) -> Answer
-    ensures { result ≡ level_answer res }
-{
-    match res {
-        Ok(level) => Answer::Level(level),
-        Err(refusal) => Answer::Refused(refusal),
-    }
-}
-
-fn pass_answer(res: Result<(), Refusal>) -> Answer
-    ensures { result ≡ pass_answer res }
-{
-    match res {
-        Ok(()) => Answer::Passed,
-        Err(refusal) => Answer::Refused(refusal),
-    }
-}
-
-fn tick_answer(res: Result<(u32, u32), Refusal>) -> Answer
-    ensures { result ≡ tick_answer res }
-{
-    match res {
-        Ok((given, ran)) => Answer::Ticked(given, ran),
-        Err(refusal) => Answer::Refused(refusal),
-    }
-}
 
 // Asks a dispatcher one call.
 fn carry_out<S: Supply>(dispatcher: &mut Dispatcher<S>, call: Call) -> Answer
@@ -48,11 +21,21 @@ fn carry_out<S: Supply>(dispatcher: &mut Dispatcher<S>, call: Call) -> Answer
             run,
             period,
             deadline,
-        } => level_answer(dispatcher.admit(id, run, period, deadline)),
-        Call::Level { id } => level_answer(dispatcher.level(id)),
-        Call::Withdraw { id } => pass_answer(dispatcher.withdraw(id)),
-        Call::Release { id, run } => pass_answer(dispatcher.release(id, run)),
-        Call::Tick => tick_answer(dispatcher.tick()),
+        } => dispatcher
+            .admit(id, run, period, deadline)
+            .map_or_else(Answer::Refused, Answer::Level),
+        Call::Level { id } => dispatcher
+            .level(id)
+            .map_or_else(Answer::Refused, Answer::Level),
+        Call::Withdraw { id } => dispatcher
+            .withdraw(id)
+            .map_or_else(Answer::Refused, |()| Answer::Passed),
+        Call::Release { id, run } => dispatcher
+            .release(id, run)
+            .map_or_else(Answer::Refused, |()| Answer::Passed),
+        Call::Tick => dispatcher
+            .tick()
+            .map_or_else(Answer::Refused, |(given, ran)| Answer::Ticked(given, ran)),
     }
 }
 
@@ -66,6 +49,7 @@ pub fn run_shift<S: Supply + Drop>(supply: S, calls: &[Call], answers: &mut [Ans
 {
     let mut dispatcher = Dispatcher::new(supply);
     let count = calls.len().min(answers.len());
+    // by index, since a proof learns nothing of what is written through `answers.iter_mut().zip(calls)`
     for i in 0..count {
         answers[i] = carry_out(&mut dispatcher, calls[i]);
     }
@@ -75,6 +59,7 @@ pub fn run_shift<S: Supply + Drop>(supply: S, calls: &[Call], answers: &mut [Ans
 #[cfg(test)]
 mod tests {
     use super::*;
+    use schedule::Refusal;
     use supply::SteadyRack;
 
     // Two tasks on one processor, both released at clock 0. Task 0 may not be released again at clock 4, and may at 5.
