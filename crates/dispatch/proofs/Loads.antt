@@ -1,6 +1,10 @@
 -- The loads of the tasks that are held: what bounds them, what leaves them, and one task more. Assumes nothing.
-use Rattle.std.proofs.Common.{◌≡◌, ℕ, ◌+◌, ◌<◌, ◌≤◌, true, false, cond, not, ◌&&◌, eqb, ◌⊎◌, List, length, get_or, set, Option, sym, refl, ap, ◌∙◌, inl, inr, arith, get_or-set_other, get_or-set_same}
+use Rattle.std.proofs.Common.{◌≡◌, ℕ, ◌+◌, ◌<◌, ◌≤◌, true, false, cond, not, ◌&&◌, eqb, ◌⊎◌, List, length, get_or, set, map, Option, zero, suc, add-one, sym, refl, ap, ◌∙◌, subst, inl, inr, arith, get_or-set_other, get_or-set_same}
 use Rattle.std.proofs.lemmas.Bool.{cases_eq, cases_Bool, eq-eqb, ne_eqb, and_parts, and_from, and_left, and_right, not_from_false, leb-true, cond-true, cond-false, true≢false}
+use denote.Param.Members.{Mut, Called}
+use Rattle.std.specs.Array.{IsFromFnResultFrom}
+use Rattle.std.specs.List.{range_with_len, sum as list_sum}
+use Rattle.std.proofs.lemmas.List.FromFn.{sum_by-map-range_with_len_more}
 use Rattle.schedule.specs.declared.TaskRow.{TaskRow}
 use Rattle.schedule.specs.Counting.{sum}
 use Rattle.schedule.specs.State.{put, with_job}
@@ -20,21 +24,31 @@ held_times r times held =
     let three = and_parts _ _ two.1 in
     (leb-true _ _ two.0, leb-true _ _ three.0, leb-true _ _ three.1)
 
-module _ (slot : ℕ → TaskRow) (times : (i : ℕ) → carded (slot i) ≡ true) (k : ℕ) (held : (slot k).held ≡ true) where
-  one_few : (i : ℕ) → others slot k (charge (slot k).deadline) i ≤ 8192
+-- the charges on a job with a short deadline
+module _ (slot : ℕ → TaskRow) (times : (i : ℕ) → carded (slot i) ≡ true) (k n : ℕ) (short : n ≤ 4096) where
+  one_few : (i : ℕ) → others slot k (charge n) i ≤ 8192
   unfolding charge
   one_few i = go (cases_Bool ((slot i).held && not (eqb i k)))
     where
-      go : (((slot i).held && not (eqb i k)) ≡ true) ⊎ (((slot i).held && not (eqb i k)) ≡ false) → others slot k (charge (slot k).deadline) i ≤ 8192
+      go : (((slot i).held && not (eqb i k)) ≡ true) ⊎ (((slot i).held && not (eqb i k)) ≡ false) → others slot k (charge n) i ≤ 8192
       go (inl e) =
-          let own = held_times (slot k) (times k) held in
           let other = held_times (slot i) (times i) (and_parts (slot i).held (not (eqb i k)) e).0 in
-          rw e (omega (arith, charge_few (slot k).deadline (slot i).run (slot i).period (omega (arith, other)), own, other))
+          rw e (omega (arith, charge_few n (slot i).run (slot i).period (omega (arith, other)), other))
       go (inr e) = rw e (omega arith)
 
-  pub load_few : load slot k ≤ 262144
+  pub charges_few : sum 32 (others slot k (charge n)) ≤ 262144
   unfolding sum
-  load_few = omega (arith, sum_le 32 (others slot k (charge (slot k).deadline)) (λ _. 8192) (λ i _. one_few i))
+  charges_few = omega (arith, sum_le 32 (others slot k (charge n)) (λ _. 8192) (λ i _. one_few i))
+
+pub load_few : (slot : ℕ → TaskRow) → ((i : ℕ) → carded (slot i) ≡ true) → (k : ℕ) → (slot k).held ≡ true → load slot k ≤ 262144
+load_few slot times k held = charges_few slot times k (slot k).deadline (omega (arith, held_times (slot k) (times k) held))
+
+-- the sum over the numbers below n, as a list of them gives it
+pub sum_listed : (n : ℕ) (f : ℕ → ℕ) → list_sum (map f (range_with_len 0 n)) ≡ sum n f
+unfolding sum
+sum_listed zero f = refl
+sum_listed (suc n) f =
+    ap (λ m. list_sum (map f (range_with_len 0 m))) (sym (add-one n)) ∙ sum_by-map-range_with_len_more (λ x. x) f 0 n n (omega arith) ∙ ap (λ s. s + f n) (sum_listed n f)
 
 -- a row with another job: its card stays
 abbrev pub Rejobbed : TaskRow → TaskRow → Type 0
@@ -125,3 +139,15 @@ module _ (slot : ℕ → TaskRow) (id own : ℕ) (new : TaskRow) (loads : List �
           get_or-set_other loads id k own 0 ne
           ∙ others-are k less (ap (λ r. r.held) (sym (put_other slot id new k ne)) ∙ there)
           ∙ sym (load_more slot id new below free held k ne)
+
+-- what each of the calls gave that filled an array, where a call leaves the closure as it was
+pub filled_by : {F B : Type 0} (g : Mut F (ℕ × Unit {0}) B) (f : F) (Q : ℕ → B → Type 0) → ((i : ℕ) (y : B) (q : F) → Called g f (i, tt) y q → (q ≡ f) × Q i y) → (ys : List B) (n i : ℕ) → IsFromFnResultFrom g f ys i n → (k : ℕ) → i ≤ k → k < i + n → (d : B) → Q k (get_or ys k d)
+filled_by g f Q gives ys zero i each k from to d = absurd (omega arith)
+filled_by {F = F} {B = B} g f Q gives ys (suc n) i each k from to d = go (cases_eq i k) (λ q e rest. filled_by g f Q gives ys n (i + 1) (subst (λ p. IsFromFnResultFrom g p ys (i + 1) n) e rest) k)
+  where
+    now : (each.0 ≡ f) × Q i each.1
+    now = gives i each.1 each.0 each.3
+
+    go : (i ≡ k) ⊎ (i ≡ k → ⊥) → ((q : F) → q ≡ f → IsFromFnResultFrom g q ys (i + 1) n → i + 1 ≤ k → k < i + 1 + n → (d : B) → Q k (get_or ys k d)) → Q k (get_or ys k d)
+    go (inl e) more = subst (λ j. Q j (get_or ys j d)) e (subst (Q i) (sym (each.2.1 d)) now.1)
+    go (inr ne) more = more each.0 now.0 each.4 (omega arith) (omega arith) d

@@ -37,9 +37,5 @@ pub(crate) fn load(table: &TaskTable, card: &Card) -> u32
     ensures value { result ≡ sum 32 (others (slots table.now.rows) (task_of card.now).id (charge (task_of card.now).deadline)) }
     ensures few { result ≤ 262144 }
 {
-    let mut load = 0;
-    for i in 0..TASKS {
-        load += charge_of(table, i, card);
-    }
-    load
+    (0..TASKS).map(|i| charge_of(table, i, card)).sum()
 }

@@ -29,11 +29,7 @@ fn due_times(rows: &[TaskRow; ROWS]) -> [u64; ROWS]
     ensures value { (i : ℕ) → i < 32 → slice_index result i ≡ due_time (slice_index_or rows.now i blank) }
     ensures sooner { (i : ℕ) → i < 32 → unfinished (slice_index_or rows.now i blank) ≡ true → slice_index result i < never }
 {
-    let mut times = [NEVER; ROWS];
-    for i in 0..ROWS {
-        times[i] = due_time(&rows[i]);
-    }
-    times
+    rows.map(|row| due_time(&row))
 }
 
 // The place of the soonest time, the first among equals.
@@ -71,9 +67,9 @@ pub(crate) fn spend(rows: &mut [TaskRow; ROWS], ran: u32)
     ensures full { length rows.new ≡ 32 }
     ensures rows { (i : ℕ) → slice_index_or rows.new i blank ≡ spent (names ran i == 1) (slice_index_or rows.old i blank) }
 {
-    for i in 0..ROWS {
+    for (i, row) in rows.iter_mut().enumerate() {
         if ran >> i & 1 == 1 {
-            rows[i].lacking = rows[i].lacking.saturating_sub(1);
+            row.lacking = row.lacking.saturating_sub(1);
         }
     }
 }

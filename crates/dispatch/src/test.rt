@@ -15,26 +15,13 @@ pub(crate) fn witness<S: Supply>(tasks: &HeldTasks, supply: &S, k: u32) -> Optio
 {
     let card = tasks.card(k)?;
     let load = tasks.load(k);
-    let mut level = 1;
-    loop {
-        if level > MAX_LEVEL {
-            break None;
-        }
-        if level * card.run() + load <= supply.level(level, card.deadline()) {
-            break Some(level);
-        }
-        level += 1;
-    }
+    let (run, deadline) = (card.run(), card.deadline());
+    (1..MAX_LEVEL + 1).find(|level| level * run + load <= supply.level(*level, deadline))
 }
 
 // The lowest-numbered task that is held and has no level.
 pub(crate) fn first_unserved<S: Supply>(tasks: &HeldTasks, supply: &S) -> Option<u32>
     ensures { result ≡ task_found (first_unserved (S.Supply.table supply.now) (slots tasks.now.table.rows)) }
 {
-    for k in 0..TASKS {
-        if tasks.holds(k) && witness(tasks, supply, k).is_none() {
-            return Some(k);
-        }
-    }
-    None
+    (0..TASKS).find(|k| tasks.holds(*k) && witness(tasks, supply, *k).is_none())
 }

@@ -11,20 +11,22 @@ use super::HeldTasks;
 use crate::charges::{charge, load};
 use crate::table::{ROWS, TaskTable};
 use schedule::TaskRow;
+use std::array;
 use task::{Card, TASKS};
+
+// The load of the task of this number; 0, where none is held.
+fn load_of(table: &TaskTable, k: u32) -> u32
+    ensures { result ≡ (if (slots table.now.rows k).held then load (slots table.now.rows) k else 0) }
+{
+    table.card(k).map_or(0, |card| load(table, &card))
+}
 
 // The loads of all tasks that are held.
 fn loads(table: &TaskTable) -> [u32; ROWS]
     ensures full { length result ≡ 32 }
     ensures loaded { (k : ℕ) → k < 32 → (slots table.now.rows k).held ≡ true → slice_index result k ≡ load (slots table.now.rows) k }
 {
-    let mut loads = [0; ROWS];
-    for k in 0..TASKS {
-        if let Some(card) = table.card(k) {
-            loads[k as usize] = load(table, &card);
-        }
-    }
-    loads
+    array::from_fn(|k| load_of(table, k as u32))
 }
 
 impl HeldTasks {
