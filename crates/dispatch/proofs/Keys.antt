@@ -1,8 +1,10 @@
 -- Keys in order, of which one is put in or some are taken out. Assumes nothing.
-use Rattle.std.proofs.Common.{◌≡◌, ℕ, ◌+◌, ◌-◌, ◌<◌, ◌≤◌, Bool, true, false, ◌&&◌, ◌||◌, eqb, ◌⊎◌, List, length, get_or, set, Decides, sym, refl, ap, ◌∙◌, subst, inl, inr, add-one, arith, length-set, get_or-set_other, get_or-set_same}
+use Rattle.std.proofs.Common.{◌≡◌, ℕ, ◌+◌, ◌-◌, ◌<◌, ◌≤◌, Bool, true, false, not, ◌&&◌, ◌||◌, eqb, ◌⊎◌, List, length, get_or, take, set, ltb, Decides, sym, refl, ap, ◌∙◌, subst, inl, inr, add-one, arith, length-set, get_or-set_other, get_or-set_same}
 use mir.Val.{bool_byte}
-use Rattle.std.proofs.lemmas.Bool.{cases_eq, cases_Bool, cases_order, cases_lt, and_parts, eqb-true, both_ways}
-use Rattle.std.proofs.lemmas.Bool.Decides.{Decides-eqb, Decides-below_or, Decides-like, Decides-or, same_from_decides}
+use Rattle.std.specs.List.Sorted.{IsPartitionedBy}
+use Rattle.std.proofs.lemmas.List.{get_or-take, length-take-le, get_or_default}
+use Rattle.std.proofs.lemmas.Bool.{lt-ltb, ltb-true, cases_eq, cases_Bool, cases_order, cases_lt, and_parts, eqb-true, both_ways}
+use Rattle.std.proofs.lemmas.Bool.Decides.{Decides-eqb, Decides-below_or, Decides-like, Decides-or, Decides-and, Decides-not, same_from_decides}
 use Rattle.dispatch.specs.Keys.{among, Sorted}
 
 pub among_none : (keys : List ℕ) (x : ℕ) → among keys 0 x ≡ false
@@ -115,69 +117,41 @@ module _ (old keys : List ℕ) (kept at key : ℕ) (stays : ℕ → Bool) (so : 
       go (inl t) = subst (λ k. Filtered old (set keys kept key) k (at + 1) stays) (sym (e ∙ rw t refl)) (filtered_keep n t whole below)
       go (inr f) = subst (λ k. Filtered old (set keys kept key) k (at + 1) stays) (sym (e ∙ rw f (omega arith))) (filtered_drop n f whole below)
 
--- the first n keys with a free place: those behind it have moved up by one, and are sooner than the key that is put in
-pub record Opened (old keys : List ℕ) (at n key : ℕ) : Type 0 where
-  pub room : length keys ≡ 32
-  pub le : at ≤ n
-  pub before : (p : ℕ) → p < at → get_or keys p 0 ≡ get_or old p 0
-  pub behind : (p : ℕ) → at ≤ p → p < n → get_or keys (p + 1) 0 ≡ get_or old p 0
-  pub sooner : (p : ℕ) → at ≤ p → p < n → get_or old p 0 < key
-
-pub opened_more : (old keys : List ℕ) (at n key moved : ℕ) → n < 32 → Opened old keys at n key → 0 < at → moved ≡ get_or keys (at - 1) 0 → moved < key → Opened old (set keys at moved) (at - 1) n key
-opened_more old keys at n key moved few so some is less =
-    record {
-      room = length-set keys at moved ∙ so.room;
-      le = omega (arith, so.le);
-      before = λ p h. get_or-set_other keys at p moved 0 (λ e. omega arith) ∙ so.before p (omega arith);
-      behind = λ p h l. behind p h l (cases_eq (p + 1) at);
-      sooner = λ p h l. sooner p h l (cases_eq (p + 1) at);
-    }
+-- no key that is later than another comes behind one that is not
+pub in_front : (keys : List ℕ) (n key : ℕ) → Sorted keys n → IsPartitionedBy (λ x. ltb key x) (take n keys)
+in_front keys n key sorted i j d le below later = go (cases_eq i j)
   where
-    last : moved ≡ get_or old (at - 1) 0
-    last = is ∙ so.before (at - 1) (omega arith)
+    long : length (take n keys) ≡ n
+    long = length-take-le n keys (omega (arith, sorted.few, sorted.room))
 
-    behind : (p : ℕ) → at - 1 ≤ p → p < n → (p + 1 ≡ at) ⊎ (p + 1 ≡ at → ⊥) → get_or (set keys at moved) (p + 1) 0 ≡ get_or old p 0
-    behind p h l (inl e) = ap (λ k. get_or (set keys at moved) k 0) e ∙ get_or-set_same keys at moved 0 (omega (arith, so.le, so.room)) ∙ last ∙ ap (λ k. get_or old k 0) (omega arith)
-    behind p h l (inr ne) = get_or-set_other keys at (p + 1) moved 0 ne ∙ so.behind p (omega arith) l
+    at : (p : ℕ) → p < n → get_or (take n keys) p d ≡ get_or keys p 0
+    at p h = get_or-take n keys p d h ∙ get_or_default keys p d 0 (omega (arith, h, sorted.few, sorted.room))
 
-    sooner : (p : ℕ) → at - 1 ≤ p → p < n → (p + 1 ≡ at) ⊎ (p + 1 ≡ at → ⊥) → get_or old p 0 < key
-    sooner p h l (inl e) = let same : get_or old p 0 ≡ get_or old (at - 1) 0 = ap (λ k. get_or old k 0) (omega arith) in omega (arith, same, last)
-    sooner p h l (inr ne) = so.sooner p (omega arith) l
+    go : (i ≡ j) ⊎ (i ≡ j → ⊥) → ltb key (get_or (take n keys) i d) ≡ true
+    go (inl e) = ap (λ p. ltb key (get_or (take n keys) p d)) e ∙ later
+    go (inr ne) = lt-ltb _ _ (omega (arith, ltb-true key _ later, at i (omega (arith, long)), at j (omega (arith, long)), sorted.ordered i j (omega arith, omega (arith, long))))
 
-module _ (old keys : List ℕ) (at n key : ℕ) (so : Opened old keys at n key) (whole : Sorted old n) (few : n < 32) (new : among old n key ≡ false) (stop : 0 < at → key ≤ get_or keys (at - 1) 0) where
+-- the keys from place at on have moved up by one, and a key is put in there: those in front of it are later, the others sooner
+module _ (old keys : List ℕ) (at n key : ℕ) (whole : Sorted old n) (few : n < 32) (le : at ≤ n) (room : length keys ≡ 32) (before : (p : ℕ) → p < at → get_or keys p 0 ≡ get_or old p 0) (behind : (p : ℕ) → at ≤ p → p < n → get_or keys (p + 1) 0 ≡ get_or old p 0) (later : (p : ℕ) → p < at → key < get_or old p 0) (sooner : (p : ℕ) → at ≤ p → p < n → get_or old p 0 < key) where
   abbrev closed : ℕ → ℕ
   closed p = get_or (set keys at key) p 0
 
   closed_before : (p : ℕ) → p < at → closed p ≡ get_or old p 0
-  closed_before p h = get_or-set_other keys at p key 0 (λ e. omega arith) ∙ so.before p h
+  closed_before p h = get_or-set_other keys at p key 0 (λ e. omega arith) ∙ before p h
 
   closed_at : closed at ≡ key
-  closed_at = get_or-set_same keys at key 0 (omega (arith, so.le, so.room))
-
-  closed_behind : (p : ℕ) → at ≤ p → p < n → closed (p + 1) ≡ get_or old p 0
-  closed_behind p h l = get_or-set_other keys at (p + 1) key 0 (λ e. omega arith) ∙ so.behind p h l
-
-  later : (p : ℕ) → p < at → key < get_or old p 0
-  later p h = go (cases_eq (get_or old p 0) key) (cases_eq p (at - 1))
-    where
-      last : key ≤ get_or old (at - 1) 0
-      last = omega (arith, stop (omega arith), so.before (at - 1) (omega arith))
-
-      go : (get_or old p 0 ≡ key) ⊎ (get_or old p 0 ≡ key → ⊥) → (p ≡ at - 1) ⊎ (p ≡ at - 1 → ⊥) → key < get_or old p 0
-      go (inl e) o = absurd (both_ways (among old n key) new ((among_place old key n).1 (p, omega (arith, so.le), e)))
-      go (inr ne) (inl e) = let same : get_or old p 0 ≡ get_or old (at - 1) 0 = ap (λ k. get_or old k 0) e in omega (arith, same, last, ne)
-      go (inr ne) (inr o) = omega (arith, last, whole.ordered p (at - 1) (omega arith, omega (arith, so.le)))
+  closed_at = get_or-set_same keys at key 0 (omega arith)
 
   closed_up : (q : ℕ) → at < q → q < n + 1 → closed q ≡ get_or old (q - 1) 0
-  closed_up q h l = ap closed (omega arith) ∙ closed_behind (q - 1) (omega arith) (omega arith)
+  closed_up q h l = get_or-set_other keys at q key 0 (λ e. omega arith) ∙ ap (λ k. get_or keys k 0) (omega arith) ∙ behind (q - 1) (omega arith) (omega arith)
 
   pub closed_sorted : Sorted (set keys at key) (n + 1)
-  closed_sorted = record { room = length-set keys at key ∙ so.room; few = omega arith; ordered = λ p q h. go p q h.0 h.1 (cases_order q at) (cases_order p at) }
+  closed_sorted = record { room = length-set keys at key ∙ room; few = omega arith; ordered = λ p q h. go p q h.0 h.1 (cases_order q at) (cases_order p at) }
     where
       go : (p q : ℕ) → p < q → q < n + 1 → (q ≡ at) ⊎ ((q < at) ⊎ (at < q)) → (p ≡ at) ⊎ ((p < at) ⊎ (at < p)) → closed q < closed p
       go p q less h (inl e) o = omega (arith, ap closed e, closed_at, closed_before p (omega arith), later p (omega arith))
-      go p q less h (inr (inl l)) o = omega (arith, closed_before q l, closed_before p (omega arith), whole.ordered p q (less, omega (arith, so.le)))
-      go p q less h (inr (inr l)) (inl e) = omega (arith, closed_up q l h, ap closed e, closed_at, so.sooner (q - 1) (omega arith) (omega arith))
+      go p q less h (inr (inl l)) o = omega (arith, closed_before q l, closed_before p (omega arith), whole.ordered p q (less, omega arith))
+      go p q less h (inr (inr l)) (inl e) = omega (arith, closed_up q l h, ap closed e, closed_at, sooner (q - 1) (omega arith) (omega arith))
       go p q less h (inr (inr l)) (inr (inl b)) = omega (arith, closed_up q l h, closed_before p b, whole.ordered p (q - 1) (omega arith, omega arith))
       go p q less h (inr (inr l)) (inr (inr b)) = omega (arith, closed_up q l h, closed_up p b (omega arith), whole.ordered (p - 1) (q - 1) (omega arith, omega arith))
 
@@ -192,13 +166,87 @@ module _ (old keys : List ℕ) (at n key : ℕ) (so : Opened old keys at n key) 
         where
           go : (w.0 ≡ at) ⊎ ((w.0 < at) ⊎ (at < w.0)) → (key ≡ x) ⊎ ((p : ℕ) × (p < n) × (get_or old p 0 ≡ x))
           go (inl e) = inl (sym closed_at ∙ ap closed (sym e) ∙ w.2)
-          go (inr (inl l)) = inr (w.0, omega (arith, so.le), sym (closed_before w.0 l) ∙ w.2)
+          go (inr (inl l)) = inr (w.0, omega arith, sym (closed_before w.0 l) ∙ w.2)
           go (inr (inr l)) = inr (w.0 - 1, omega (arith, w.1), sym (closed_up w.0 l w.1) ∙ w.2)
 
       back : (key ≡ x) ⊎ ((p : ℕ) × (p < n) × (get_or old p 0 ≡ x)) → (p : ℕ) × (p < n + 1) × (closed p ≡ x)
-      back (inl e) = (at, omega (arith, so.le), closed_at ∙ e)
+      back (inl e) = (at, omega arith, closed_at ∙ e)
       back (inr w) = go (cases_lt w.0 at)
         where
           go : (w.0 < at) ⊎ (at ≤ w.0) → (p : ℕ) × (p < n + 1) × (closed p ≡ x)
           go (inl l) = (w.0, omega (arith, w.1), closed_before w.0 l ∙ w.2)
-          go (inr l) = (w.0 + 1, omega (arith, w.1), closed_behind w.0 l w.1 ∙ w.2)
+          go (inr l) = (w.0 + 1, omega (arith, w.1), closed_up (w.0 + 1) (omega arith) (omega (arith, w.1)) ∙ ap (λ k. get_or old k 0) (omega arith) ∙ w.2)
+
+-- the keys behind place at have moved down by one, over the one that stood there
+module _ (old keys : List ℕ) (at n key : ℕ) (whole : Sorted old n) (within : at < n) (is : get_or old at 0 ≡ key) (room : length keys ≡ 32) (before : (p : ℕ) → p < at → get_or keys p 0 ≡ get_or old p 0) (behind : (p : ℕ) → at ≤ p → p + 1 < n → get_or keys p 0 ≡ get_or old (p + 1) 0) where
+  pub taken_sorted : Sorted keys (n - 1)
+  taken_sorted = record { room = room; few = omega (arith, whole.few); ordered = λ p q h. go p q h.0 h.1 (cases_lt p at) (cases_lt q at) }
+    where
+      go : (p q : ℕ) → p < q → q < n - 1 → (p < at) ⊎ (at ≤ p) → (q < at) ⊎ (at ≤ q) → get_or keys q 0 < get_or keys p 0
+      go p q less h (inl l) (inl m) = omega (arith, before p l, before q m, whole.ordered p q (less, omega arith))
+      go p q less h (inl l) (inr m) = omega (arith, before p l, behind q m (omega arith), whole.ordered p (q + 1) (omega arith, omega arith))
+      go p q less h (inr l) (inl m) = absurd (omega arith)
+      go p q less h (inr l) (inr m) = omega (arith, behind p l (omega arith), behind q m (omega arith), whole.ordered (p + 1) (q + 1) (omega arith, omega arith))
+
+  pub taken_holds : (x : ℕ) → among keys (n - 1) x ≡ (among old n x && not (eqb key x))
+  taken_holds x =
+      same_from_decides (among keys (n - 1) x) (among old n x && not (eqb key x))
+      (Decides-like (among keys (n - 1) x) there back (among_place keys x (n - 1)))
+      (Decides-and (among old n x) (not (eqb key x)) (among_place old x n) (Decides-not (eqb key x) (Decides-eqb key x)))
+    where
+      -- a key at another place is another
+      apart : (p : ℕ) → p < n → (p < at) ⊎ (at < p) → get_or old p 0 ≡ x → key ≡ x → ⊥
+      apart p h (inl l) e k = omega (arith, e, k, is, whole.ordered p at (l, within))
+      apart p h (inr l) e k = omega (arith, e, k, is, whole.ordered at p (l, h))
+
+      there : (p : ℕ) × (p < n - 1) × (get_or keys p 0 ≡ x) → ((p : ℕ) × (p < n) × (get_or old p 0 ≡ x)) × (key ≡ x → ⊥)
+      there w = go (cases_lt w.0 at)
+        where
+          go : (w.0 < at) ⊎ (at ≤ w.0) → ((p : ℕ) × (p < n) × (get_or old p 0 ≡ x)) × (key ≡ x → ⊥)
+          go (inl l) = let e = sym (before w.0 l) ∙ w.2 in ((w.0, omega (arith, w.1), e), apart w.0 (omega (arith, w.1)) (inl l) e)
+          go (inr l) = let e = sym (behind w.0 l (omega (arith, w.1))) ∙ w.2 in ((w.0 + 1, omega (arith, w.1), e), apart (w.0 + 1) (omega (arith, w.1)) (inr (omega arith)) e)
+
+      back : ((p : ℕ) × (p < n) × (get_or old p 0 ≡ x)) × (key ≡ x → ⊥) → (p : ℕ) × (p < n - 1) × (get_or keys p 0 ≡ x)
+      back w = go (cases_order w.0.0 at)
+        where
+          go : (w.0.0 ≡ at) ⊎ ((w.0.0 < at) ⊎ (at < w.0.0)) → (p : ℕ) × (p < n - 1) × (get_or keys p 0 ≡ x)
+          go (inl e) = absurd (w.1 (sym is ∙ ap (λ k. get_or old k 0) (sym e) ∙ w.0.2))
+          go (inr (inl l)) = (w.0.0, omega arith, before w.0.0 l ∙ w.0.2)
+          go (inr (inr l)) = (w.0.0 - 1, omega (arith, w.0.1), behind (w.0.0 - 1) (omega arith) (omega (arith, w.0.1)) ∙ ap (λ k. get_or old k 0) (omega arith) ∙ w.0.2)
+
+-- a key that stands at none of the places is not among them
+pub not_among : (keys : List ℕ) (n key : ℕ) → ((p : ℕ) → p < n → get_or keys p 0 ≡ key → ⊥) → among keys n key ≡ false
+not_among keys n key none = go (cases_Bool (among keys n key))
+  where
+    go : (among keys n key ≡ true) ⊎ (among keys n key ≡ false) → among keys n key ≡ false
+    go (inl t) = let w = (among_place keys key n).0 t in absurd (none w.0 w.1 w.2)
+    go (inr f) = f
+
+-- there is nothing to take out where a key is not among the others
+pub among_without : (keys : List ℕ) (n key : ℕ) → among keys n key ≡ false → (x : ℕ) → among keys n x ≡ (among keys n x && not (eqb key x))
+among_without keys n key none x = go (eqb key x) refl
+  where
+    go : (b : Bool) → eqb key x ≡ b → among keys n x ≡ (among keys n x && not b)
+    go true e = let out : among keys n x ≡ false = ap (among keys n) (sym (eqb-true key x e)) ∙ none in rw out refl
+    go false e = both (among keys n x)
+      where
+        both : (a : Bool) → a ≡ (a && true)
+        both true = refl
+        both false = refl
+
+-- keys that are no later than a new one are sooner
+pub sooner_keys : (keys : List ℕ) (at n key : ℕ) → among keys n key ≡ false → ((p : ℕ) → (at ≤ p) × (p < n) → get_or keys p 0 ≤ key) → (p : ℕ) → at ≤ p → p < n → get_or keys p 0 < key
+sooner_keys keys at n key new no_later p h l = go (cases_eq (get_or keys p 0) key)
+  where
+    go : (get_or keys p 0 ≡ key) ⊎ (get_or keys p 0 ≡ key → ⊥) → get_or keys p 0 < key
+    go (inl e) = absurd (both_ways (among keys n key) new ((among_place keys key n).1 (p, l, e)))
+    go (inr ne) = omega (arith, no_later p (h, l), ne)
+
+-- a key is not among the others where it does not stand at its place
+pub not_at_place : (keys : List ℕ) (at n key : ℕ) → Sorted keys n → ((p : ℕ) → p < at → key < get_or keys p 0) → ((p : ℕ) → (at ≤ p) × (p < n) → get_or keys p 0 ≤ key) → (at < n → get_or keys at 0 ≡ key → ⊥) → among keys n key ≡ false
+not_at_place keys at n key sorted later no_later other = not_among keys n key (λ p h. go p h (cases_order p at))
+  where
+    go : (p : ℕ) → p < n → (p ≡ at) ⊎ ((p < at) ⊎ (at < p)) → get_or keys p 0 ≡ key → ⊥
+    go p h (inl e) is = other (omega arith) (ap (λ k. get_or keys k 0) (sym e) ∙ is)
+    go p h (inr (inl l)) is = omega (arith, later p l, is)
+    go p h (inr (inr l)) is = omega (arith, is, sorted.ordered at p (l, h), no_later at (omega arith, omega arith))

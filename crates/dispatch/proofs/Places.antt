@@ -7,7 +7,7 @@ use Rattle.schedule.specs.declared.TaskRow.{TaskRow}
 use Rattle.schedule.specs.Counting.{sum}
 use Rattle.schedule.specs.Order.{unfinished, due, ahead, rank}
 use Rattle.schedule.proofs.Sums.{sum_same, sum_grown, sum_zero, sum_lt}
-use Rattle.dispatch.specs.Keys.{key_of, id_of, waits, Kept}
+use Rattle.dispatch.specs.Keys.{key_of, id_of, waits, Sorted, Kept}
 use Rattle.dispatch.proofs.Keys.{among_place}
 
 pub number_key : (i : ℕ) (r : TaskRow) → i < 32 → id_of (key_of i r) ≡ i
@@ -36,7 +36,12 @@ ones : sum 32 (λ _. 1) ≡ 32
 unfolding sum
 ones = refl
 
-module _ (slot : ℕ → TaskRow) (keys : List ℕ) (n : ℕ) (kept : Kept slot keys n) where
+-- the first n keys are those of the unfinished jobs, in order
+pub record InOrder (slot : ℕ → TaskRow) (keys : List ℕ) (n : ℕ) : Type 0 where
+  pub sorted : Sorted keys n
+  pub holds : Kept slot keys n
+
+module _ (slot : ℕ → TaskRow) (keys : List ℕ) (n : ℕ) (kept : InOrder slot keys n) where
   -- the key at a place is that of an unfinished job
   pub at_place : (p : ℕ) → p < n → (unfinished (slot (id_of (get_or keys p 0))) ≡ true) × (key_of (id_of (get_or keys p 0)) (slot (id_of (get_or keys p 0))) ≡ get_or keys p 0)
   unfolding waits

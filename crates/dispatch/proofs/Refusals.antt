@@ -1,5 +1,5 @@
 -- What each call answers, question by question. Assumes nothing.
-use Rattle.std.proofs.Common.{◌≡◌, ℕ, ◌<◌, ◌≤◌, true, false, ◌&&◌, leb, Some, None, sym, refl, ap, arith}
+use Rattle.std.proofs.Common.{◌≡◌, ℕ, ◌<◌, ◌≤◌, Bool, true, false, ◌&&◌, leb, ltb, Some, None, Option, sym, refl, ap, arith}
 use Rattle.std.proofs.lemmas.Bool.{lt-ltb, le-ltb, eq-eqb, ne_eqb}
 use Rattle.task.specs.Task.{timely}
 use Rattle.schedule.specs.declared.Call.{Call}
@@ -9,7 +9,8 @@ use Rattle.schedule.specs.declared.Refusal.TheVariants.{NumberTooLarge, BadCard,
 use Rattle.schedule.specs.declared.Answer.TheVariants.{Refused}
 use Rattle.schedule.specs.State.{State, put}
 use Rattle.schedule.specs.Test.{first_unserved}
-use Rattle.schedule.specs.Calls.{admitted, quiet, ready, refusal, reply, changed, answer_by, state_by, answer, after}
+use Rattle.dispatch.specs.Dispatcher.{unheld}
+use Rattle.schedule.specs.Calls.{ask, admitted, quiet, ready, refusal, reply, changed, answer_by, state_by, answer, after}
 
 -- the call is refused, and for this reason; it passes
 abbrev pub Refuses : State → Call → Refusal → Type 0
@@ -24,76 +25,88 @@ refuses s c r e = (sym (ap (λ o. answer_by o (reply s c)) e), sym (ap (λ o. st
 passes : (s : State) (c : Call) → refusal s c ≡ None → Passes s c
 passes s c e = (sym (ap (λ o. answer_by o (reply s c)) e), sym (ap (λ o. state_by o s (changed s c)) e))
 
+-- what the first two questions of a call refuse, it is refused for, whatever it asks behind them
+first_two : (a b : Bool) (p q : Refusal) (rest : Option Refusal) (r : Refusal) → Some r ≡ ask a p (ask b q None) → ask a p (ask b q rest) ≡ Some r
+first_two false b p q rest r e = sym e
+first_two true false p q rest r e = sym e
+first_two true true p q rest r e = absurd cc
+
+both_passed : (a b : Bool) (p q : Refusal) → None ≡ ask a p (ask b q None) → (a ≡ true) × (b ≡ true)
+both_passed false b p q e = absurd cc
+both_passed true false p q e = absurd cc
+both_passed true true p q e = (refl, refl)
+
 module _ (s : State) (id : ℕ) where
-  pub level_large : 32 ≤ id → Refuses s (Level id) NumberTooLarge
+  pub level_unheld : (r : Refusal) → Some r ≡ unheld s.slot id → Refuses s (Level id) r
   unfolding refusal
-  level_large big = refuses s (Level id) NumberTooLarge (rw (le-ltb id 32 big) refl)
+  level_unheld r e = refuses s (Level id) r (sym e)
 
-  pub level_unheld : id < 32 → (s.slot id).held ≡ false → Refuses s (Level id) NotHeld
+  pub withdraw_unheld : (r : Refusal) → Some r ≡ unheld s.slot id → Refuses s (Withdraw id) r
   unfolding refusal
-  level_unheld below free = refuses s (Level id) NotHeld (rw (lt-ltb id 32 below, free) refl)
+  withdraw_unheld r e = refuses s (Withdraw id) r (first_two (ltb id 32) (s.slot id).held NumberTooLarge NotHeld _ r e)
 
-  pub level_passes : id < 32 → (s.slot id).held ≡ true → Passes s (Level id)
+  pub release_unheld : (run : ℕ) (r : Refusal) → Some r ≡ unheld s.slot id → Refuses s (Release id run) r
   unfolding refusal
-  level_passes below held = passes s (Level id) (rw (lt-ltb id 32 below, held) refl)
+  release_unheld run r e = refuses s (Release id run) r (first_two (ltb id 32) (s.slot id).held NumberTooLarge NotHeld _ r e)
 
-  pub withdraw_large : 32 ≤ id → Refuses s (Withdraw id) NumberTooLarge
-  unfolding refusal
-  withdraw_large big = refuses s (Withdraw id) NumberTooLarge (rw (le-ltb id 32 big) refl)
+  pub is_held : None ≡ unheld s.slot id → (s.slot id).held ≡ true
+  is_held e = (both_passed (ltb id 32) (s.slot id).held NumberTooLarge NotHeld e).1
 
-  pub withdraw_unheld : id < 32 → (s.slot id).held ≡ false → Refuses s (Withdraw id) NotHeld
-  unfolding refusal
-  withdraw_unheld below free = refuses s (Withdraw id) NotHeld (rw (lt-ltb id 32 below, free) refl)
+  module _ (known : None ≡ unheld s.slot id) where
+    below : ltb id 32 ≡ true
+    below = (both_passed (ltb id 32) (s.slot id).held NumberTooLarge NotHeld known).0
 
-  pub withdraw_busy : id < 32 → (s.slot id).held ≡ true → quiet s.slot ≡ false → Refuses s (Withdraw id) JobUnfinished
-  unfolding refusal
-  withdraw_busy below held busy = refuses s (Withdraw id) JobUnfinished (rw (lt-ltb id 32 below, held, busy) refl)
+    held : (s.slot id).held ≡ true
+    held = is_held known
 
-  pub withdraw_passes : id < 32 → (s.slot id).held ≡ true → quiet s.slot ≡ true → Passes s (Withdraw id)
-  unfolding refusal
-  withdraw_passes below held done = passes s (Withdraw id) (rw (lt-ltb id 32 below, held, done) refl)
+    pub level_passes : Passes s (Level id)
+    unfolding refusal
+    level_passes = passes s (Level id) (sym known)
 
-module _ (s : State) (id run : ℕ) where
-  pub release_large : 32 ≤ id → Refuses s (Release id run) NumberTooLarge
-  unfolding refusal
-  release_large big = refuses s (Release id run) NumberTooLarge (rw (le-ltb id 32 big) refl)
+    pub withdraw_busy : quiet s.slot ≡ false → Refuses s (Withdraw id) JobUnfinished
+    unfolding refusal
+    withdraw_busy busy = refuses s (Withdraw id) JobUnfinished (rw (below, held, busy) refl)
 
-  pub release_unheld : id < 32 → (s.slot id).held ≡ false → Refuses s (Release id run) NotHeld
-  unfolding refusal
-  release_unheld below free = refuses s (Release id run) NotHeld (rw (lt-ltb id 32 below, free) refl)
+    pub withdraw_passes : quiet s.slot ≡ true → Passes s (Withdraw id)
+    unfolding refusal
+    withdraw_passes done = passes s (Withdraw id) (rw (below, held, done) refl)
 
-  pub release_bad : id < 32 → (s.slot id).held ≡ true → (leb 1 run && leb run (s.slot id).run) ≡ false → Refuses s (Release id run) BadRunTime
-  unfolding refusal
-  release_bad below held bad = refuses s (Release id run) BadRunTime (rw (lt-ltb id 32 below, held, bad) refl)
+    module _ (run : ℕ) where
+      pub release_bad : (leb 1 run && leb run (s.slot id).run) ≡ false → Refuses s (Release id run) BadRunTime
+      unfolding refusal
+      release_bad bad = refuses s (Release id run) BadRunTime (rw (below, held, bad) refl)
 
-  pub release_soon : id < 32 → (s.slot id).held ≡ true → (leb 1 run && leb run (s.slot id).run) ≡ true → ready s.clock (s.slot id).period (s.slot id).latest ≡ false → Refuses s (Release id run) TooSoon
-  unfolding refusal
-  release_soon below held good soon = refuses s (Release id run) TooSoon (rw (lt-ltb id 32 below, held, good, soon) refl)
+      pub release_soon : (leb 1 run && leb run (s.slot id).run) ≡ true → ready s.clock (s.slot id).period (s.slot id).latest ≡ false → Refuses s (Release id run) TooSoon
+      unfolding refusal
+      release_soon good soon = refuses s (Release id run) TooSoon (rw (below, held, good, soon) refl)
 
-  pub release_passes : id < 32 → (s.slot id).held ≡ true → (leb 1 run && leb run (s.slot id).run) ≡ true → ready s.clock (s.slot id).period (s.slot id).latest ≡ true → Passes s (Release id run)
-  unfolding refusal
-  release_passes below held good now' = passes s (Release id run) (rw (lt-ltb id 32 below, held, good, now') refl)
+      pub release_passes : (leb 1 run && leb run (s.slot id).run) ≡ true → ready s.clock (s.slot id).period (s.slot id).latest ≡ true → Passes s (Release id run)
+      unfolding refusal
+      release_passes good now' = passes s (Release id run) (rw (below, held, good, now') refl)
 
 module _ (s : State) (id run period deadline : ℕ) where
-  pub admit_large : 32 ≤ id → Refuses s (Admit id run period deadline) NumberTooLarge
+  pub admit_large : ltb id 32 ≡ false → Refuses s (Admit id run period deadline) NumberTooLarge
   unfolding refusal
-  admit_large big = refuses s (Admit id run period deadline) NumberTooLarge (rw (le-ltb id 32 big) refl)
+  admit_large big = refuses s (Admit id run period deadline) NumberTooLarge (rw big refl)
 
-  pub admit_bad : id < 32 → timely run period deadline ≡ false → Refuses s (Admit id run period deadline) BadCard
-  unfolding refusal
-  admit_bad below bad = refuses s (Admit id run period deadline) BadCard (rw (lt-ltb id 32 below, bad) refl)
+  module _ (below : ltb id 32 ≡ true) where
+    pub admit_bad : timely run period deadline ≡ false → Refuses s (Admit id run period deadline) BadCard
+    unfolding refusal
+    admit_bad bad = refuses s (Admit id run period deadline) BadCard (rw (below, bad) refl)
 
-  pub admit_taken : id < 32 → timely run period deadline ≡ true → (s.slot id).held ≡ true → Refuses s (Admit id run period deadline) NumberTaken
-  unfolding refusal
-  admit_taken below good held = refuses s (Admit id run period deadline) NumberTaken (rw (lt-ltb id 32 below, good, held) refl)
+    module _ (good : timely run period deadline ≡ true) where
+      pub admit_taken : (s.slot id).held ≡ true → Refuses s (Admit id run period deadline) NumberTaken
+      unfolding refusal
+      admit_taken held = refuses s (Admit id run period deadline) NumberTaken (rw (below, good, held) refl)
 
-  pub admit_fails : id < 32 → timely run period deadline ≡ true → (s.slot id).held ≡ false → (k : ℕ) → k < 32 → first_unserved s.table (put s.slot id (admitted run period deadline)) ≡ k → Refuses s (Admit id run period deadline) (NoLevel k)
-  unfolding refusal
-  admit_fails below good free k small first = refuses s (Admit id run period deadline) (NoLevel k) (rw (lt-ltb id 32 below, good, free, first, ne_eqb k 32 (λ e. omega arith)) refl)
+      module _ (free : (s.slot id).held ≡ false) where
+        pub admit_fails : (k : ℕ) → k < 32 → first_unserved s.table (put s.slot id (admitted run period deadline)) ≡ k → Refuses s (Admit id run period deadline) (NoLevel k)
+        unfolding refusal
+        admit_fails k small first = refuses s (Admit id run period deadline) (NoLevel k) (rw (below, good, free, first, ne_eqb k 32 (λ e. omega arith)) refl)
 
-  pub admit_passes : id < 32 → timely run period deadline ≡ true → (s.slot id).held ≡ false → first_unserved s.table (put s.slot id (admitted run period deadline)) ≡ 32 → Passes s (Admit id run period deadline)
-  unfolding refusal
-  admit_passes below good free all = passes s (Admit id run period deadline) (rw (lt-ltb id 32 below, good, free, eq-eqb _ 32 all) refl)
+        pub admit_passes : first_unserved s.table (put s.slot id (admitted run period deadline)) ≡ 32 → Passes s (Admit id run period deadline)
+        unfolding refusal
+        admit_passes all = passes s (Admit id run period deadline) (rw (below, good, free, eq-eqb _ 32 all) refl)
 
 module _ (s : State) where
   pub tick_ends : 1000000000 ≤ s.clock → Refuses s Tick ClockAtEnd

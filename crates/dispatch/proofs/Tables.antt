@@ -1,9 +1,11 @@
 -- The rows of a table, with one of them set. Assumes nothing.
-use Rattle.std.proofs.Common.{◌≡◌, ℕ, ◌<◌, ◌≤◌, Bool, true, false, cond, ◌&&◌, ltb, ◌⊎◌, List, length, set, replicate, Some, None, sym, refl, ap, ◌∙◌, inl, inr, arith, length-set}
+use Rattle.std.proofs.Common.{◌≡◌, ℕ, ◌<◌, ◌≤◌, Bool, true, false, cond, ◌&&◌, ltb, ◌⊎◌, List, length, set, replicate, Some, None, Option, Ok, Err, sym, refl, ap, ◌∙◌, inl, inr, arith, length-set}
 use mathlib.Core.Path.{fun_ext}
 use Rattle.std.proofs.lemmas.List.{get_or-replicate, get_or_past}
 use Rattle.std.proofs.lemmas.Bool.{cases_lt, lt-ltb, eq-eqb, ne_eqb, and_from, and_parts, cond-true, both_ways, true≢false}
+use Rattle.std.specs.Option.{option_map, ok_or}
 use Rattle.task.specs.Task.{timely}
+use Rattle.schedule.specs.declared.Refusal.{Refusal}
 use Rattle.schedule.specs.declared.TaskRow.{TaskRow}
 use Rattle.schedule.specs.Calls.{quiet}
 use Rattle.schedule.specs.Order.{unfinished}
@@ -63,8 +65,18 @@ module _ (rows : List TaskRow) (id : ℕ) (full : length rows ≡ 32) (times : c
 -- what an option that hangs on a test tells of it
 pub some_by : {A : Type 0} (b : Bool) (x y : A) → Some x ≡ cond b (Some y) None → (b ≡ true) × (x ≡ y)
 some_by true x y e = (refl, cc)
-some_by false x y e = let z : ◌≡◌ {A = ℕ} 0 1 = cc in absurd (omega arith)
+some_by false x y e = absurd cc
 
 pub none_by : {A : Type 0} (b : Bool) (y : A) → None ≡ cond b (Some y) None → b ≡ false
-none_by true y e = let z : ◌≡◌ {A = ℕ} 0 1 = cc in absurd (omega arith)
+none_by true y e = absurd cc
 none_by false y e = refl
+
+-- the same, where the option is turned to a result
+module _ {A B : Type 0} (f : A → B) (b : Bool) (y : B) (q : Refusal) where
+  pub ok_by : (o : Option A) (x : A) → option_map f o ≡ cond b (Some y) None → Ok x ≡ ok_or o q → (b ≡ true) × (f x ≡ y)
+  ok_by None x h e = absurd cc
+  ok_by (Some z) x h e = let is : x ≡ z = cc in some_by b (f x) y (ap (λ w. Some (f w)) is ∙ h)
+
+  pub err_by : (o : Option A) (r : Refusal) → option_map f o ≡ cond b (Some y) None → Err r ≡ ok_or o q → (b ≡ false) × (r ≡ q)
+  err_by None r h e = (none_by b y h, cc)
+  err_by (Some z) r h e = absurd cc

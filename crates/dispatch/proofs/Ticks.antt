@@ -15,7 +15,7 @@ use Rattle.schedule.proofs.Words.{names_at}
 use Rattle.dispatch.specs.Keys.{key_of, id_of, keyed, waits, among, Kept}
 use Rattle.dispatch.specs.Rows.{slots}
 use Rattle.dispatch.proofs.Keys.{among_place, Filtered}
-use Rattle.dispatch.proofs.Places.{number_key, number_below, at_place, place_of, rank_place}
+use Rattle.dispatch.proofs.Places.{InOrder, number_key, number_below, at_place, place_of, rank_place}
 use Rattle.dispatch.proofs.Words.{bit_set}
 
 -- i runs on one of g processors, and m others or more are ranked before it
@@ -42,7 +42,7 @@ next_test : (a : Bool) (r m : ℕ) → (r ≡ m → ⊥) → a && leb m r ≡ a 
 next_test a r m ne = ap (λ b. a && b) (grind (arith, nat_tests))
 
 -- a tick on g processors goes over the keys from place first on
-module _ (slot : ℕ → TaskRow) (keys : List ℕ) (n : ℕ) (kept : Kept slot keys n) (within : (i : ℕ) → unfinished (slot i) ≡ true → i < 32) (g first : ℕ) (from : first ≡ n - g) where
+module _ (slot : ℕ → TaskRow) (keys : List ℕ) (n : ℕ) (kept : InOrder slot keys n) (within : (i : ℕ) → unfinished (slot i) ≡ true → i < 32) (g first : ℕ) (from : first ≡ n - g) where
   -- an unfinished job with its place and rank
   placed : (i : ℕ) → unfinished (slot i) ≡ true → (p : ℕ) × (p < n) × (get_or keys p 0 ≡ key_of i (slot i)) × (rank slot i + p + 1 ≡ n)
   placed i u = let w = place_of slot keys n kept i (within i u) u in (w.0, w.1, w.2, rank_place slot keys n kept w.0 i w.1 (within i u) w.2)
@@ -166,4 +166,4 @@ module _ (slot : ℕ → TaskRow) (g : ℕ) (rows : List TaskRow) (w : ℕ) (so 
       still (slot i).held (slot i).lacking (eqb (key_of i (slot i)) x) (runs slot g i) ∙ ap (λ r. keyed i r x) (sym (rows_behind i))
 
   pub kept_behind : (old keys : List ℕ) (n place : ℕ) → Kept slot old n → Filtered old keys place n (stays slot g) → Kept (slots rows) keys place
-  kept_behind old keys n place kept so = record { sorted = so.sorted; holds = λ x. so.holds x ∙ ap (λ b. b && stays slot g x) (kept.holds x) ∙ waits_behind x }
+  kept_behind old keys n place kept so x = so.holds x ∙ ap (λ b. b && stays slot g x) (kept x) ∙ waits_behind x

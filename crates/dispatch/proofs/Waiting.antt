@@ -8,7 +8,7 @@ use Rattle.schedule.specs.State.{blank, put}
 use Rattle.schedule.proofs.Rows.{put_same, put_other, put_set}
 use Rattle.dispatch.specs.Keys.{key_of, id_of, keyed, waits, among, Sorted, Kept}
 use Rattle.dispatch.specs.Rows.{slots}
-use Rattle.dispatch.proofs.Places.{number_key, number_below, at_place, place_of, room_left}
+use Rattle.dispatch.proofs.Places.{InOrder, number_key, number_below, at_place, place_of, room_left}
 use Rattle.dispatch.proofs.Tables.{not_quiet, is_quiet}
 
 and_not : (a : Bool) → a && not a ≡ false
@@ -34,7 +34,7 @@ unfolding waits
 waits_none slot each x = and_left _ _ (each (id_of x))
 
 -- there is no key where, and only where, no job is unfinished
-pub count_quiet : (slot : ℕ → TaskRow) (keys : List ℕ) (n : ℕ) → Kept slot keys n → eqb n 0 ≡ quiet slot
+pub count_quiet : (slot : ℕ → TaskRow) (keys : List ℕ) (n : ℕ) → InOrder slot keys n → eqb n 0 ≡ quiet slot
 count_quiet slot keys n kept = go (cases_lt 0 n)
   where
     none : n ≤ 0 → (i : ℕ) → i < 32 → (unfinished (slot i) ≡ true) ⊎ (unfinished (slot i) ≡ false) → unfinished (slot i) ≡ false
@@ -84,8 +84,8 @@ module _ (slot : ℕ → TaskRow) (id : ℕ) (below : id < 32) where
   waits_blank r = ap (λ s. keyed (id_of (key_of id r)) s (key_of id r)) (put_same slot id blank (id_of (key_of id r)) (number_key id r below))
 
   module _ (keys : List ℕ) (count : ℕ) (kept : Kept slot keys count) (less : List ℕ) (fewer : ℕ) (sorted : Sorted less fewer) (left : (x : ℕ) → among less fewer x ≡ among keys count x && not (keyed id (slot id) x)) where
-    kept_left : Kept (put slot id blank) less fewer
-    kept_left = record { sorted = sorted; holds = λ x. left x ∙ ap (λ b. b && not (keyed id (slot id) x)) (kept.holds x) ∙ waits_left x }
+    kept_left : InOrder (put slot id blank) less fewer
+    kept_left = record { sorted = sorted; holds = λ x. left x ∙ ap (λ b. b && not (keyed id (slot id) x)) (kept x) ∙ waits_left x }
 
     pub room_behind : fewer < 32
     room_behind = room_left (put slot id blank) less fewer kept_left id below (ap unfinished (put_same slot id blank id refl))
@@ -93,12 +93,12 @@ module _ (slot : ℕ → TaskRow) (id : ℕ) (below : id < 32) where
     pub new_key : (r : TaskRow) → among less fewer (key_of id r) ≡ false
     new_key r = kept_left.holds (key_of id r) ∙ waits_blank r
 
-    pub joined_holds : (r : TaskRow) (more : List ℕ) (n : ℕ) → ((x : ℕ) → among more n x ≡ keyed id r x || among less fewer x) → (x : ℕ) → among more n x ≡ waits (put slot id r) x
+    pub joined_holds : (r : TaskRow) (more : List ℕ) (n : ℕ) → ((x : ℕ) → among more n x ≡ keyed id r x || among less fewer x) → Kept (put slot id r) more n
     joined_holds r more n joined x = joined x ∙ ap (λ b. keyed id r x || b) (kept_left.holds x) ∙ waits_joined r x
 
-    pub left_holds : (r : TaskRow) → unfinished r ≡ false → (x : ℕ) → among less fewer x ≡ waits (put slot id r) x
+    pub left_holds : (r : TaskRow) → unfinished r ≡ false → Kept (put slot id r) less fewer
     left_holds r finished = joined_holds r less fewer (λ x. sym (ap (λ b. (b && eqb (key_of id r) x) || among less fewer x) finished))
 
 -- the jobs are kept with a row set
-pub kept_set : (rows : List TaskRow) (id : ℕ) (r : TaskRow) (keys : List ℕ) (n : ℕ) → id < length rows → Sorted keys n → ((x : ℕ) → among keys n x ≡ waits (put (slots rows) id r) x) → Kept (slots (set rows id r)) keys n
-kept_set rows id r keys n below sorted holds = record { sorted = sorted; holds = λ x. holds x ∙ waits_same _ _ x (sym (put_set rows id r below (id_of x))) }
+pub kept_set : (rows : List TaskRow) (id : ℕ) (r : TaskRow) (keys : List ℕ) (n : ℕ) → id < length rows → Kept (put (slots rows) id r) keys n → Kept (slots (set rows id r)) keys n
+kept_set rows id r keys n below holds x = holds x ∙ waits_same _ _ x (sym (put_set rows id r below (id_of x)))

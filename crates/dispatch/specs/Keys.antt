@@ -30,7 +30,6 @@ pub record Sorted (keys : List ℕ) (count : ℕ) : Type 0 where
   pub few : count ≤ 32
   pub ordered : (p q : ℕ) → (p < q) × (q < count) → slice_index keys q < slice_index keys p
 
--- they are the keys of the unfinished jobs
-pub record Kept (slot : ℕ → TaskRow) (keys : List ℕ) (count : ℕ) : Type 0 where
-  pub sorted : Sorted keys count
-  pub holds : (x : ℕ) → among keys count x ≡ waits slot x
+-- the first count keys are those of the unfinished jobs
+abbrev pub Kept : (ℕ → TaskRow) → List ℕ → ℕ → Type 0
+Kept slot keys count = (x : ℕ) → among keys count x ≡ waits slot x

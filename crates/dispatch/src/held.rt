@@ -10,7 +10,7 @@ mod keeping;
 // At the number of each task that is held stands its load, so that an admission adds charges and does not count them anew.
 #[derive(Clone, Copy)]
 pub(crate) struct HeldTasks {
-    table: TaskTable,
+    pub(crate) table: TaskTable,
     loads: [u32; ROWS],
     ghost full: { length loads ≡ 32 },
     ghost loaded: { (k : ℕ) → k < 32 → (slots table.rows k).held ≡ true → slice_index loads k ≡ load (slots table.rows) k },

@@ -1,11 +1,12 @@
 // The unfinished jobs of a table, in the order in which they run.
-ghost use Rattle.std.specs.Prelude.{◌≡◌, ℕ, ◌+◌, ◌*◌, ◌<◌, true, false, not, ◌&&◌, ◌||◌, length, set, Some, ◌==◌, nat_lt, slice_set};
+ghost use Rattle.std.specs.Prelude.{◌≡◌, ℕ, ◌+◌, ◌*◌, ◌<◌, true, false, not, ◌&&◌, ◌||◌, ◌≤◌, length, Some, ◌==◌, nat_lt, slice_index, slice_set};
 ghost use Rattle.schedule.specs.Calls.{released};
 ghost use Rattle.schedule.specs.Order.{unfinished, runs, word, spent};
 ghost use Rattle.dispatch.specs.Keys.{key_of, keyed, among, Sorted, Kept};
 ghost use Rattle.dispatch.specs.Rows.{slots};
 
 use crate::table::ROWS;
+use crate::task_id::TaskId;
 use schedule::TaskRow;
 
 // how many numbers a task can have: keys of equal deadlines differ by less
@@ -17,6 +18,7 @@ const NUMBERS: u64 = 32;
 pub(crate) struct Jobs {
     keys: [u64; ROWS],
     count: usize,
+    ghost sorted: { Sorted keys count },
 }
 
 // Whether the row's job lacks ticks.
@@ -27,11 +29,10 @@ fn unfinished(row: &TaskRow) -> bool
 }
 
 // The key of a job of a task, by the clock of its release and the task's deadline.
-fn key_of(id: usize, at: u32, deadline: u32) -> u64
-    requires { id < 32 }
-    ensures { result ≡ (at + deadline) * 32 + id }
+fn key_of(task: TaskId, at: u32, deadline: u32) -> u64
+    ensures { result ≡ (at + deadline) * 32 + task.number }
 {
-    (u64::from(at) + u64::from(deadline)) * NUMBERS + id as u64
+    (u64::from(at) + u64::from(deadline)) * NUMBERS + u64::from(task.number)
 }
 
 // A job of the task in this row starts at a clock, and is to run for some ticks.
@@ -55,8 +56,7 @@ fn work(row: &mut TaskRow) -> bool
 impl Jobs {
     // There is no job.
     pub(crate) fn none() -> Jobs
-        ensures sorted { Sorted result.keys result.count }
-        ensures holds { (x : ℕ) → among result.keys result.count x ≡ false }
+        ensures { (x : ℕ) → among result.keys result.count x ≡ false }
     {
         Jobs {
             keys: [0; ROWS],
@@ -71,87 +71,81 @@ impl Jobs {
         self.count == 0
     }
 
+    // The place of a key among those in order: the keys in front of it are later.
+    fn place(&self, key: u64) -> usize
+        ensures within { result ≤ self.now.count }
+        ensures later { (p : ℕ) → p < result → key < slice_index self.now.keys p }
+        ensures sooner { (p : ℕ) → (result ≤ p) × (p < self.now.count) → slice_index self.now.keys p ≤ key }
+    {
+        self.keys[..self.count].partition_point(|other| *other > key)
+    }
+
     // Puts a key in, in its place.
     fn insert(&mut self, key: u64)
-        requires sorted { Sorted self.old.keys self.old.count }
         requires few { self.old.count < 32 }
         requires new { among self.old.keys self.old.count key ≡ false }
-        ensures sorted { Sorted self.new.keys self.new.count }
-        ensures holds { (x : ℕ) → among self.new.keys self.new.count x ≡ (key == x || among self.old.keys self.old.count x) }
+        ensures { (x : ℕ) → among self.new.keys self.new.count x ≡ (key == x || among self.old.keys self.old.count x) }
     {
-        let mut at = self.count;
-        while at > 0 && self.keys[at - 1] < key {
-            self.keys[at] = self.keys[at - 1];
-            at -= 1;
-        }
+        let at = self.place(key);
+        self.keys.copy_within(at..self.count, at + 1);
         self.keys[at] = key;
         self.count += 1;
     }
 
     // Takes a key out, if it is there.
     fn remove(&mut self, key: u64)
-        requires { Sorted self.old.keys self.old.count }
-        ensures sorted { Sorted self.new.keys self.new.count }
-        ensures holds { (x : ℕ) → among self.new.keys self.new.count x ≡ (among self.old.keys self.old.count x && not (key == x)) }
+        ensures { (x : ℕ) → among self.new.keys self.new.count x ≡ (among self.old.keys self.old.count x && not (key == x)) }
     {
-        let mut place = 0;
-        for at in 0..self.count {
-            let other = self.keys[at];
-            self.keys[place] = other;
-            place += usize::from(other != key);
+        let at = self.place(key);
+        if at < self.count && self.keys[at] == key {
+            self.keys.copy_within(at + 1..self.count, at);
+            self.count -= 1;
         }
-        self.count = place;
     }
 
     // Takes the job of a row out, if it is unfinished.
-    fn leave(&mut self, id: usize, row: &TaskRow)
-        requires below { id < 32 }
-        requires sorted { Sorted self.old.keys self.old.count }
-        ensures sorted { Sorted self.new.keys self.new.count }
-        ensures holds { (x : ℕ) → among self.new.keys self.new.count x ≡ (among self.old.keys self.old.count x && not (keyed id row.now x)) }
+    fn leave(&mut self, task: TaskId, row: &TaskRow)
+        ensures { (x : ℕ) → among self.new.keys self.new.count x ≡ (among self.old.keys self.old.count x && not (keyed task.number row.now x)) }
     {
         if unfinished(row) {
-            self.remove(key_of(id, row.latest.unwrap_or(0), row.deadline));
+            self.remove(key_of(task, row.latest.unwrap_or(0), row.deadline));
         }
     }
 
     // Puts the job of a row in, which was released at this clock, if it is unfinished.
-    fn join(&mut self, id: usize, row: &TaskRow, at: u32)
-        requires below { id < 32 }
+    fn join(&mut self, task: TaskId, row: &TaskRow, at: u32)
         requires released { row.now.latest ≡ Some at }
-        requires sorted { Sorted self.old.keys self.old.count }
         requires few { self.old.count < 32 }
-        requires new { among self.old.keys self.old.count (key_of id row.now) ≡ false }
-        ensures sorted { Sorted self.new.keys self.new.count }
-        ensures holds { (x : ℕ) → among self.new.keys self.new.count x ≡ (keyed id row.now x || among self.old.keys self.old.count x) }
+        requires new { among self.old.keys self.old.count (key_of task.number row.now) ≡ false }
+        ensures { (x : ℕ) → among self.new.keys self.new.count x ≡ (keyed task.number row.now x || among self.old.keys self.old.count x) }
     {
         if unfinished(row) {
-            self.insert(key_of(id, at, row.deadline));
+            self.insert(key_of(task, at, row.deadline));
         }
     }
 
     // Puts a row without an unfinished job in the place of another.
-    pub(crate) fn replace(&mut self, rows: &mut [TaskRow; ROWS], id: usize, row: TaskRow)
-        requires below { id < 32 }
+    pub(crate) fn replace(&mut self, rows: &mut [TaskRow; ROWS], task: TaskId, row: TaskRow)
         requires finished { unfinished row ≡ false }
         requires kept { Kept (slots rows.old) self.old.keys self.old.count }
-        ensures rows { rows.new ≡ slice_set rows.old id row }
+        ensures rows { rows.new ≡ slice_set rows.old task.number row }
         ensures kept { Kept (slots rows.new) self.new.keys self.new.count }
     {
-        self.leave(id, &rows[id]);
+        let id = task.number as usize;
+        self.leave(task, &rows[id]);
         rows[id] = row;
     }
 
     // Starts a job in a row at a clock, in the place of one that is unfinished.
-    pub(crate) fn release(&mut self, rows: &mut [TaskRow; ROWS], id: usize, at: u32, run: u32)
-        requires below { id < 32 }
+    pub(crate) fn release(&mut self, rows: &mut [TaskRow; ROWS], task: TaskId, at: u32, run: u32)
         requires kept { Kept (slots rows.old) self.old.keys self.old.count }
-        ensures rows { rows.new ≡ slice_set rows.old id (released at run (slots rows.old id)) }
+        ensures rows { rows.new ≡ slice_set rows.old task.number (released at run (slots rows.old task.number)) }
         ensures kept { Kept (slots rows.new) self.new.keys self.new.count }
     {
-        self.leave(id, &rows[id]);
+        let id = task.number as usize;
+        self.leave(task, &rows[id]);
         start(&mut rows[id], at, run);
-        self.join(id, &rows[id], at);
+        self.join(task, &rows[id], at);
     }
 
     // Lets a tick pass on the given processors, of which the soonest jobs get one each; answers the word of their tasks: bit
@@ -163,17 +157,17 @@ impl Jobs {
         ensures rows { (i : ℕ) → slots rows.new i ≡ spent (runs (slots rows.old) given i) (slots rows.old i) }
         ensures kept { Kept (slots rows.new) self.new.keys self.new.count }
     {
-        let first = self.count.saturating_sub(given as usize);
-        let mut place = first;
+        let end = self.count;
+        let first = end.saturating_sub(given as usize);
+        self.count = first;
         let mut word = 0;
-        for at in first..self.count {
+        for at in first..end {
             let key = self.keys[at];
             let id = (key % NUMBERS) as usize;
             word |= 1 << id;
-            self.keys[place] = key;
-            place += usize::from(work(&mut rows[id]));
+            self.keys[self.count] = key;
+            self.count += usize::from(work(&mut rows[id]));
         }
-        self.count = place;
         word
     }
 }

@@ -8,6 +8,7 @@ mod jobs;
 mod select;
 mod shift;
 mod table;
+mod task_id;
 mod test;
 
 pub use dispatcher::Dispatcher;

@@ -5,10 +5,11 @@ ghost use Rattle.task.specs.Task.{task_of};
 ghost use Rattle.schedule.specs.State.{blank, put};
 ghost use Rattle.schedule.specs.Calls.{released, quiet};
 ghost use Rattle.schedule.specs.Order.{unfinished, word, runs, spent};
-ghost use Rattle.dispatch.specs.Keys.{among, waits};
+ghost use Rattle.dispatch.specs.Keys.{Kept};
 ghost use Rattle.dispatch.specs.Rows.{slots, carded, task_at, row_of};
 
 use crate::jobs::Jobs;
+use crate::task_id::TaskId;
 use schedule::TaskRow;
 use task::{Card, TASKS};
 
@@ -32,10 +33,7 @@ pub(crate) struct TaskTable {
     jobs: Jobs,
     ghost full: { length rows ≡ 32 },
     ghost times: { (i : ℕ) → carded (slice_index_or rows i blank) ≡ true },
-    ghost room: { length jobs.keys ≡ 32 },
-    ghost few: { jobs.count ≤ 32 },
-    ghost ordered: { (p q : ℕ) → (p < q) × (q < jobs.count) → slice_index jobs.keys q < slice_index jobs.keys p },
-    ghost kept: { (x : ℕ) → among jobs.keys jobs.count x ≡ waits (slots rows) x },
+    ghost kept: { Kept (slots rows) jobs.keys jobs.count },
 }
 
 impl TaskTable {
@@ -80,13 +78,12 @@ impl TaskTable {
     }
 
     // Puts a row without an unfinished job in the place of another.
-    fn set(&mut self, id: u32, row: TaskRow)
-        requires below { id < 32 }
+    fn set(&mut self, task: TaskId, row: TaskRow)
         requires finished { unfinished row ≡ false }
         requires times { carded row ≡ true }
-        ensures { slots self.new.rows ≡ put (slots self.old.rows) id row }
+        ensures { slots self.new.rows ≡ put (slots self.old.rows) task.number row }
     {
-        self.jobs.replace(&mut self.rows, id as usize, row);
+        self.jobs.replace(&mut self.rows, task, row);
     }
 
     // The table with one task more.
@@ -102,24 +99,22 @@ impl TaskTable {
             latest: None,
             lacking: 0,
         };
-        tasks.set(card.id(), row);
+        tasks.set(TaskId::of(card), row);
         tasks
     }
 
     // Lets a task go.
-    pub(crate) fn clear(&mut self, id: u32)
-        requires { id < 32 }
-        ensures { slots self.new.rows ≡ put (slots self.old.rows) id blank }
+    pub(crate) fn clear(&mut self, task: TaskId)
+        ensures { slots self.new.rows ≡ put (slots self.old.rows) task.number blank }
     {
-        self.set(id, BLANK);
+        self.set(task, BLANK);
     }
 
     // Starts a job of a task at a clock.
-    pub(crate) fn release(&mut self, id: u32, at: u32, run: u32)
-        requires { id < 32 }
-        ensures { slots self.new.rows ≡ put (slots self.old.rows) id (released at run (slots self.old.rows id)) }
+    pub(crate) fn release(&mut self, task: TaskId, at: u32, run: u32)
+        ensures { slots self.new.rows ≡ put (slots self.old.rows) task.number (released at run (slots self.old.rows task.number)) }
     {
-        self.jobs.release(&mut self.rows, id as usize, at, run);
+        self.jobs.release(&mut self.rows, task, at, run);
     }
 
     // Lets one tick pass on the given processors; answers the word of the tasks that ran.
@@ -150,6 +145,12 @@ mod tests {
         }
     }
 
+    fn release(tasks: &mut TaskTable, id: u32, at: u32, run: u32) {
+        if let Some(task) = TaskId::new(id) {
+            tasks.release(task, at, run);
+        }
+    }
+
     // The word of those that would run.
     fn word(tasks: &TaskTable, given: u32) -> u32 {
         let mut copy = *tasks;
@@ -162,9 +163,9 @@ mod tests {
         tasks = with_task(&tasks, 3, 10);
         tasks = with_task(&tasks, 5, 12);
         tasks = with_task(&tasks, 7, 8);
-        tasks.release(5, 0, 1);
-        tasks.release(3, 2, 2);
-        tasks.release(7, 3, 3);
+        release(&mut tasks, 5, 0, 1);
+        release(&mut tasks, 3, 2, 2);
+        release(&mut tasks, 7, 3, 3);
         tasks
     }
 
@@ -195,13 +196,15 @@ mod tests {
     #[test]
     fn jobs_leave_their_places(rt: HostRuntime) {
         let mut tasks = jobs();
-        tasks.release(7, 5, 1);
+        release(&mut tasks, 7, 5, 1);
         assert_eq!(rt; word(&tasks, 2), 0b0010_1000);
-        tasks.clear(3);
+        if let Some(task) = TaskId::new(3) {
+            tasks.clear(task);
+        }
         assert_eq!(rt; word(&tasks, 2), 0b1010_0000);
         tasks = with_task(&tasks, 5, 9);
         assert_eq!(rt; word(&tasks, 2), 0b1000_0000);
-        tasks.release(7, 5, 0);
+        release(&mut tasks, 7, 5, 0);
         assert_eq!(rt; tasks.quiet(), true);
     }
 
@@ -212,11 +215,11 @@ mod tests {
             tasks = with_task(&tasks, id, 50);
         }
         for id in 0..32 {
-            tasks.release(id, u32::MAX, 1);
+            release(&mut tasks, id, u32::MAX, 1);
         }
         assert_eq!(rt; word(&tasks, 1), 1);
         assert_eq!(rt; word(&tasks, 32), u32::MAX);
-        tasks.release(31, 4_294_967_294, 1);
+        release(&mut tasks, 31, 4_294_967_294, 1);
         assert_eq!(rt; word(&tasks, 1), 1 << 31);
     }
 }

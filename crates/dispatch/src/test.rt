@@ -13,7 +13,7 @@ use task::TASKS;
 pub(crate) fn witness<S: Supply>(tasks: &HeldTasks, supply: &S, k: u32) -> Option<u32>
     ensures { result ≡ (if (slots tasks.now.table.rows k).held then level_found (witness (S.Supply.table supply.now) (slots tasks.now.table.rows) k) else None) }
 {
-    let card = tasks.card(k)?;
+    let card = tasks.table.card(k)?;
     let load = tasks.load(k);
     let (run, deadline) = (card.run(), card.deadline());
     (1..MAX_LEVEL + 1).find(|level| level * run + load <= supply.level(*level, deadline))
@@ -23,5 +23,5 @@ pub(crate) fn witness<S: Supply>(tasks: &HeldTasks, supply: &S, k: u32) -> Optio
 pub(crate) fn first_unserved<S: Supply>(tasks: &HeldTasks, supply: &S) -> Option<u32>
     ensures { result ≡ task_found (first_unserved (S.Supply.table supply.now) (slots tasks.now.table.rows)) }
 {
-    (0..TASKS).find(|k| tasks.holds(*k) && witness(tasks, supply, *k).is_none())
+    (0..TASKS).find(|k| tasks.table.holds(*k) && witness(tasks, supply, *k).is_none())
 }

@@ -1,16 +1,19 @@
 // What a dispatcher is asked. A call that is refused changes nothing.
 ghost use Rattle.std.specs.Prelude.{◌≡◌, ℕ, suc, ◌+◌, ◌<◌, true, false, is_ok};
+ghost use Rattle.std.specs.Result.{IfOk, result_err};
 ghost use Rattle.schedule.specs.State.{fresh};
 ghost use Rattle.schedule.specs.Calls.{ready, answer, after};
 ghost use Rattle.schedule.specs.declared.Call.TheVariants.{Admit, Level, Withdraw, Release, Tick};
-ghost use Rattle.dispatch.specs.Dispatcher.{state_of, level_answer, pass_answer, tick_answer};
+ghost use Rattle.dispatch.specs.Dispatcher.{state_of, unheld, level_answer, pass_answer, tick_answer};
+ghost use Rattle.dispatch.specs.Rows.{slots};
 
 use super::Dispatcher;
 use crate::held::HeldTasks;
+use crate::task_id::TaskId;
 use crate::test::{first_unserved, witness};
 use schedule::{Refusal, TaskRow};
 use supply::Supply;
-use task::{Card, TASKS};
+use task::Card;
 
 // the clock at which no further tick can pass
 const MAX_CLOCK: u32 = 1_000_000_000;
@@ -37,16 +40,24 @@ impl<S: Supply> Dispatcher<S> {
         }
     }
 
+    // The task of a number, if it is held.
+    fn held(&self, id: u32) -> Result<TaskId, Refusal>
+        ensures named { IfOk result (λ task. task.number ≡ id) }
+        ensures refused { result_err result ≡ unheld (slots self.now.tasks.table.rows) id }
+    {
+        let task = TaskId::new(id).ok_or(Refusal::NumberTooLarge)?;
+        if self.tasks.table.holds(id) {
+            Ok(task)
+        } else {
+            Err(Refusal::NotHeld)
+        }
+    }
+
     // The least level that serves a task that is held.
     pub fn level(&self, id: u32) -> Result<u32, Refusal>
         ensures answer { level_answer result ≡ answer (state_of S.Supply.row S.Supply.table self.now) (Level id) }
     {
-        if id >= TASKS {
-            return Err(Refusal::NumberTooLarge);
-        }
-        if !self.tasks.holds(id) {
-            return Err(Refusal::NotHeld);
-        }
+        self.held(id)?;
         Ok(witness(&self.tasks, &self.supply, id).unwrap_or(0))
     }
 
@@ -56,13 +67,9 @@ impl<S: Supply> Dispatcher<S> {
         ensures after { state_of S.Supply.row S.Supply.table self.new ≡ after (state_of S.Supply.row S.Supply.table self.old) (Admit id run period deadline) }
         ensures same { is_ok result ≡ false → self.new ≡ self.old }
     {
-        if id >= TASKS {
-            return Err(Refusal::NumberTooLarge);
-        }
-        let Some(card) = Card::new(id, run, period, deadline) else {
-            return Err(Refusal::BadCard);
-        };
-        if self.tasks.holds(id) {
+        TaskId::new(id).ok_or(Refusal::NumberTooLarge)?;
+        let card = Card::new(id, run, period, deadline).ok_or(Refusal::BadCard)?;
+        if self.tasks.table.holds(id) {
             return Err(Refusal::NumberTaken);
         }
         let tasks = self.tasks.with(&card);
@@ -80,16 +87,11 @@ impl<S: Supply> Dispatcher<S> {
         ensures after { state_of S.Supply.row S.Supply.table self.new ≡ after (state_of S.Supply.row S.Supply.table self.old) (Withdraw id) }
         ensures same { is_ok result ≡ false → self.new ≡ self.old }
     {
-        if id >= TASKS {
-            return Err(Refusal::NumberTooLarge);
-        }
-        if !self.tasks.holds(id) {
-            return Err(Refusal::NotHeld);
-        }
-        if !self.tasks.quiet() {
+        let task = self.held(id)?;
+        if !self.tasks.table.quiet() {
             return Err(Refusal::JobUnfinished);
         }
-        self.tasks.clear(id);
+        self.tasks.clear(task);
         Ok(())
     }
 
@@ -99,20 +101,15 @@ impl<S: Supply> Dispatcher<S> {
         ensures after { state_of S.Supply.row S.Supply.table self.new ≡ after (state_of S.Supply.row S.Supply.table self.old) (Release id run) }
         ensures same { is_ok result ≡ false → self.new ≡ self.old }
     {
-        if id >= TASKS {
-            return Err(Refusal::NumberTooLarge);
-        }
-        let row = self.tasks.row(id);
-        if !row.held {
-            return Err(Refusal::NotHeld);
-        }
+        let task = self.held(id)?;
+        let row = self.tasks.table.row(id);
         if run < 1 || row.run < run {
             return Err(Refusal::BadRunTime);
         }
         if !ready(&row, self.clock) {
             return Err(Refusal::TooSoon);
         }
-        self.tasks.release(id, self.clock, run);
+        self.tasks.release(task, self.clock, run);
         Ok(())
     }
 

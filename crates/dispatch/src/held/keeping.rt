@@ -10,7 +10,7 @@ ghost use Rattle.dispatch.specs.Rows.{slots, task_at, row_of};
 use super::HeldTasks;
 use crate::charges::{charge, load};
 use crate::table::{ROWS, TaskTable};
-use schedule::TaskRow;
+use crate::task_id::TaskId;
 use std::array;
 use task::{Card, TASKS};
 
@@ -38,30 +38,6 @@ impl HeldTasks {
             table: TaskTable::new(),
             loads: [0; ROWS],
         }
-    }
-
-    pub(crate) fn row(&self, id: u32) -> TaskRow
-        ensures { result ≡ slots self.now.table.rows id }
-    {
-        self.table.row(id)
-    }
-
-    pub(crate) fn holds(&self, id: u32) -> bool
-        ensures { result ≡ (slots self.now.table.rows id).held }
-    {
-        self.table.holds(id)
-    }
-
-    pub(crate) fn card(&self, id: u32) -> Option<Card>
-        ensures { option_map task_of result ≡ (if (slots self.now.table.rows id).held then Some (task_at id (slots self.now.table.rows id)) else None) }
-    {
-        self.table.card(id)
-    }
-
-    pub(crate) fn quiet(&self) -> bool
-        ensures { result ≡ quiet (slots self.now.table.rows) }
-    {
-        self.table.quiet()
     }
 
     // The charges of all other tasks on one that is held.
@@ -94,20 +70,18 @@ impl HeldTasks {
     }
 
     // Lets a task go.
-    pub(crate) fn clear(&mut self, id: u32)
-        requires { id < 32 }
-        ensures { slots self.new.table.rows ≡ put (slots self.old.table.rows) id blank }
+    pub(crate) fn clear(&mut self, task: TaskId)
+        ensures { slots self.new.table.rows ≡ put (slots self.old.table.rows) task.number blank }
     {
-        self.table.clear(id);
+        self.table.clear(task);
         self.loads = loads(&self.table);
     }
 
     // Starts a job of a task at a clock.
-    pub(crate) fn release(&mut self, id: u32, at: u32, run: u32)
-        requires { id < 32 }
-        ensures { slots self.new.table.rows ≡ put (slots self.old.table.rows) id (released at run (slots self.old.table.rows id)) }
+    pub(crate) fn release(&mut self, task: TaskId, at: u32, run: u32)
+        ensures { slots self.new.table.rows ≡ put (slots self.old.table.rows) task.number (released at run (slots self.old.table.rows task.number)) }
     {
-        self.table.release(id, at, run);
+        self.table.release(task, at, run);
     }
 
     // Lets one tick pass on the given processors; answers the word of the tasks that ran.

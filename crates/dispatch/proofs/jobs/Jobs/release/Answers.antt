@@ -8,30 +8,28 @@ use Rattle.dispatch.proofs.jobs.Jobs.release.Goals as goal
 pub join-requires : goal.join-requires
 join-requires c =
     let rows = c.args.rows.now in
-    let id = c.args.id in
+    let id = c.args.task.number in
     let old = c.args.self.now in
     let left = c.leave.new.self in
-    let inside : id < length rows = omega (arith, c.told-rows, c.requires.below) in
+    let inside : id < length rows = omega (arith, c.told-rows, c.args.task.below) in
     let row = slots (set rows id c.start.new.row) id in
     record {
-      below = c.requires.below;
       released = ap (λ r. r.latest) (get_or-set_same rows id c.start.new.row _ inside ∙ c.start.ensures);
-      sorted = c.leave.ensures.sorted;
-      few = room_behind (slots rows) id c.requires.below old.keys old.count c.requires.kept left.keys left.count c.leave.ensures.sorted c.leave.ensures.holds;
-      new = new_key (slots rows) id c.requires.below old.keys old.count c.requires.kept left.keys left.count c.leave.ensures.sorted c.leave.ensures.holds row;
+      few = room_behind (slots rows) id c.args.task.below old.keys old.count c.requires.kept left.keys left.count left.sorted c.leave.ensures;
+      new = new_key (slots rows) id c.args.task.below old.keys old.count c.requires.kept left.keys left.count left.sorted c.leave.ensures row;
     }
 
 pub returns : goal.returns
 returns c =
     let rows = c.args.rows.now in
-    let id = c.args.id in
+    let id = c.args.task.number in
     let old = c.args.self.now in
     let left = c.leave.new.self in
     let now = c.join.new.self in
     let row = c.start.new.row in
-    let inside : id < length rows = omega (arith, c.told-rows, c.requires.below) in
-    let holds = joined_holds (slots rows) id c.requires.below old.keys old.count c.requires.kept left.keys left.count c.leave.ensures.sorted c.leave.ensures.holds (slots (set rows id row) id) now.keys now.count c.join.ensures.holds in
+    let inside : id < length rows = omega (arith, c.told-rows, c.args.task.below) in
+    let holds = joined_holds (slots rows) id c.args.task.below old.keys old.count c.requires.kept left.keys left.count left.sorted c.leave.ensures (slots (set rows id row) id) now.keys now.count c.join.ensures in
     record {
       rows = ap (set rows id) c.start.ensures;
-      kept = kept_set rows id row now.keys now.count inside c.join.ensures.sorted (λ x. holds x ∙ ap (λ r. waits (put (slots rows) id r) x) (get_or-set_same rows id row _ inside));
+      kept = kept_set rows id row now.keys now.count inside (λ x. holds x ∙ ap (λ r. waits (put (slots rows) id r) x) (get_or-set_same rows id row _ inside));
     }

@@ -1,21 +1,23 @@
-use Rattle.std.proofs.Common.{◌≡◌, ◌+◌, not, ◌&&◌, eqb, get_or, refl, ap, ◌∙◌, arith}
-use mir.Val.{bool_byte}
-use Rattle.std.proofs.lemmas.Bool.{both_ways}
-use Rattle.std.proofs.lemmas.Bool.Decides.{nat_tests}
-use Rattle.dispatch.specs.Keys.{among}
-use Rattle.dispatch.proofs.Keys.{among_none, filtered_none, filtered_more}
+use Rattle.std.proofs.Common.{◌≡◌, ◌<◌, get_or, ap, ◌∙◌, arith}
+use Rattle.dispatch.proofs.Keys.{taken_holds, not_at_place, among_without}
 use Rattle.dispatch.proofs.jobs.Jobs.remove.Goals as goal
+use Rattle.dispatch.proofs.jobs.Jobs.remove.Goals.{else-at-self-via-then-at-self+else-self-at, else-at-self-via-else-at-self}
 
-pub loop-at-init : goal.loop-at-init
-loop-at-init c = filtered_none c.args.self.now.keys c.args.self.now.count 0 (λ x. not (eqb c.args.key x)) c.requires (omega arith) (λ x h. absurd (both_ways _ (among_none c.args.self.now.keys x) h))
+pub returns-then-self-at : goal.returns-then-self-at
+returns-then-self-at c =
+    let old = c.args.self.now in
+    let keys = c.copy_within.new.self in
+    let at = c.place-at.result in
+    let moved = c.copy_within.ensures.by_index in
+    taken_holds old.keys keys at old.count c.args.key old.sorted c.if-at-self.true c.if-self-at.true (omega (arith, c.copy_within.ensures.len, old.sorted.room)) (λ p h. moved.1 p 0 h) (λ p h l. moved.0 p 0 h (omega arith) ∙ ap (λ k. get_or old.keys k 0) (omega arith))
 
-pub loop-at-preserved : goal.loop-at-preserved
-loop-at-preserved c =
-    let key = get_or c.loop-at.self.keys c.loop-at.at 0 in
-    let test : eqb key c.args.key ≡ eqb c.args.key key = grind (arith, nat_tests) in
-    filtered_more c.args.self.now.keys c.loop-at.self.keys c.loop-at.place c.loop-at.at key (λ x. not (eqb c.args.key x)) c.loop-at.invariant refl c.args.self.now.count (c.loop-at.place + c.from-place.result) c.requires c.loop-at-test.true (ap (λ b. c.loop-at.place + b) (c.from-place.ensures ∙ ap (λ b. bool_byte (not b)) test))
-
-pub returns : goal.returns
-returns c =
-    let end : c.loop-at.at ≡ c.args.self.now.count = omega arith in
-    record { sorted = c.loop-at.invariant.sorted; holds = λ x. c.loop-at.invariant.holds x ∙ ap (λ n. among c.args.self.now.keys n x && not (eqb c.args.key x)) end }
+pub returns-else-at-self : goal.returns-else-at-self
+returns-else-at-self c =
+    let old = c.args.self.now in
+    let at = c.place-at.result in
+    let place = c.place-at.ensures in
+    let other : at < old.count → get_or old.keys at 0 ≡ c.args.key → ⊥ = elim c.else-at-self.branch [
+      | else-at-self-via-then-at-self+else-self-at w ↦ λ h. w.if-self-at.false
+      | else-at-self-via-else-at-self w ↦ λ h e. absurd (omega (arith, w.if-at-self.false))
+    ] in
+    among_without old.keys old.count c.args.key (not_at_place old.keys at old.count c.args.key old.sorted place.later place.sooner other)

@@ -6,7 +6,8 @@ use Rattle.dispatch.proofs.jobs.Jobs.replace.Goals as goal
 pub returns : goal.returns
 returns c =
     let rows = c.args.rows.now in
+    let id = c.args.task.number in
     let old = c.args.self.now in
     let left = c.leave.new.self in
-    let holds = left_holds (slots rows) c.args.id c.requires.below old.keys old.count c.requires.kept left.keys left.count c.leave.ensures.sorted c.leave.ensures.holds c.args.row c.requires.finished in
-    record { rows = refl; kept = kept_set rows c.args.id c.args.row left.keys left.count (omega (arith, c.told-rows, c.requires.below)) c.leave.ensures.sorted holds }
+    let holds = left_holds (slots rows) id c.args.task.below old.keys old.count c.requires.kept left.keys left.count left.sorted c.leave.ensures c.args.row c.requires.finished in
+    record { rows = refl; kept = kept_set rows id c.args.row left.keys left.count (omega (arith, c.told-rows, c.args.task.below)) holds }

@@ -2,6 +2,7 @@ use Rattle.std.proofs.Common.{◌≡◌, ◌+◌, get_or, sym, refl, ap, ◌∙�
 use mir.Val.{bool_byte}
 use Rattle.dispatch.specs.Rows.{slots}
 use Rattle.dispatch.proofs.Keys.{Filtered, filtered_none, filtered_more}
+use Rattle.dispatch.proofs.Places.{InOrder}
 use Rattle.dispatch.proofs.Tables.{unfinished_below}
 use Rattle.dispatch.proofs.Ticks.{Ran, stays, ran_first, stays_first, lacks_here, stays_here, ran_more, rows_behind, word_behind, kept_behind}
 use Rattle.dispatch.proofs.jobs.Jobs.run.Goals as goal
@@ -10,51 +11,68 @@ pub loop-at-init : goal.loop-at-init
 loop-at-init c =
     let rows = c.args.rows.now in
     let old = c.args.self.now in
+    let kept : InOrder (slots rows) old.keys old.count = record { sorted = old.sorted; holds = c.requires } in
     let first = c.saturating_sub-first.result in
     let from = c.saturating_sub-first.ensures in
     let within = unfinished_below rows c.told-rows in (
-      ran_first (slots rows) old.keys old.count c.requires within c.args.given first from rows c.told-rows (λ i. refl),
-      filtered_none old.keys old.count first (stays (slots rows) c.args.given) c.requires.sorted (omega (arith, from)) (stays_first (slots rows) old.keys old.count c.requires within c.args.given first from),
+      ran_first (slots rows) old.keys old.count kept within c.args.given first from rows c.told-rows (λ i. refl),
+      filtered_none old.keys old.count first (stays (slots rows) c.args.given) old.sorted (omega (arith, from)) (stays_first (slots rows) old.keys old.count kept within c.args.given first from),
     )
 
 pub work-requires : goal.work-requires
 work-requires c =
     let rows = c.args.rows.now in
     let old = c.args.self.now in
-    let first = c.saturating_sub-first.result in
+    let kept : InOrder (slots rows) old.keys old.count = record { sorted = old.sorted; holds = c.requires } in
     let key = get_or c.loop-at.self.keys c.loop-at.at 0 in
     let is = c.loop-at.invariant.1.rest c.loop-at.at (omega arith) in
-    lacks_here (slots rows) old.keys old.count c.requires (unfinished_below rows c.told-rows) c.args.given first c.saturating_sub-first.ensures c.loop-at.at key c.loop-at-test.true c.loop-at.auto.at is c.loop-at.rows c.loop-at.word c.loop-at.invariant.0
+    lacks_here (slots rows) old.keys old.count kept (unfinished_below rows c.told-rows) c.args.given c.saturating_sub-first.result c.saturating_sub-first.ensures c.loop-at.at key c.loop-at-test.true c.loop-at.auto.at is c.loop-at.rows c.loop-at.word c.loop-at.invariant.0
+
+pub invariant_of-self-in-loop-at : goal.invariant_of-self-in-loop-at
+invariant_of-self-in-loop-at c =
+    let slot = slots c.args.rows.now in
+    let old = c.args.self.now in
+    let kept : InOrder slot old.keys old.count = record { sorted = old.sorted; holds = c.requires } in
+    let now = c.loop-at.self in
+    let at = c.loop-at.at in
+    let g = c.args.given in
+    let within = unfinished_below c.args.rows.now c.told-rows in
+    let key = get_or now.keys at 0 in
+    let filtered = c.loop-at.invariant.1 in
+    let test = stays_here slot old.keys old.count kept within g c.saturating_sub-first.result c.saturating_sub-first.ensures at key c.loop-at-test.true c.loop-at.auto.at (filtered.rest at (omega arith)) c.loop-at.rows c.loop-at.word c.loop-at.invariant.0 ∙ sym c.work.ensures.more in
+    record { sorted = (filtered_more old.keys now.keys now.count at key (stays slot g) filtered refl old.count (now.count + c.from.result) old.sorted c.loop-at-test.true (ap (λ b. now.count + b) (c.from.ensures ∙ ap bool_byte (sym test)))).sorted }
 
 pub loop-at-preserved : goal.loop-at-preserved
 loop-at-preserved c =
     let slot = slots c.args.rows.now in
     let old = c.args.self.now in
-    let keys = c.loop-at.self.keys in
+    let kept : InOrder slot old.keys old.count = record { sorted = old.sorted; holds = c.requires } in
+    let now = c.loop-at.self in
     let at = c.loop-at.at in
     let g = c.args.given in
     let first = c.saturating_sub-first.result in
     let from = c.saturating_sub-first.ensures in
     let within = unfinished_below c.args.rows.now c.told-rows in
-    let key = get_or keys at 0 in
+    let key = get_or now.keys at 0 in
     let filtered = c.loop-at.invariant.1 in
     let is = filtered.rest at (omega arith) in
-    let test = stays_here slot old.keys old.count c.requires within g first from at key c.loop-at-test.true c.loop-at.auto.at is c.loop-at.rows c.loop-at.word c.loop-at.invariant.0 ∙ sym c.work.ensures.more in (
-      ran_more slot old.keys old.count c.requires within g first from at key c.loop-at-test.true c.loop-at.auto.at is c.loop-at.rows c.loop-at.word c.loop-at.invariant.0 c.work.new.row c.work.ensures.row,
-      filtered_more old.keys keys c.loop-at.place at key (stays slot g) filtered refl old.count (c.loop-at.place + c.from-place.result) c.requires.sorted c.loop-at-test.true (ap (λ b. c.loop-at.place + b) (c.from-place.ensures ∙ ap bool_byte (sym test))),
+    let test = stays_here slot old.keys old.count kept within g first from at key c.loop-at-test.true c.loop-at.auto.at is c.loop-at.rows c.loop-at.word c.loop-at.invariant.0 ∙ sym c.work.ensures.more in (
+      ran_more slot old.keys old.count kept within g first from at key c.loop-at-test.true c.loop-at.auto.at is c.loop-at.rows c.loop-at.word c.loop-at.invariant.0 c.work.new.row c.work.ensures.row,
+      filtered_more old.keys now.keys now.count at key (stays slot g) filtered refl old.count (now.count + c.from.result) old.sorted c.loop-at-test.true (ap (λ b. now.count + b) (c.from.ensures ∙ ap bool_byte (sym test))),
     )
 
 pub returns : goal.returns
 returns c =
     let rows = c.args.rows.now in
     let old = c.args.self.now in
+    let now = c.loop-at.self in
     let g = c.args.given in
     let end : c.loop-at.at ≡ old.count = omega (arith, c.loop-at.auto, c.loop-at-test.false, c.saturating_sub-first.ensures) in
     let ran = subst (λ m. Ran (slots rows) g m c.loop-at.rows c.loop-at.word) (omega (arith, end)) c.loop-at.invariant.0 in
-    let filtered = subst (λ n. Filtered old.keys c.loop-at.self.keys c.loop-at.place n (stays (slots rows) g)) end c.loop-at.invariant.1 in
+    let filtered = subst (λ n. Filtered old.keys now.keys now.count n (stays (slots rows) g)) end c.loop-at.invariant.1 in
     record {
       word = word_behind (slots rows) g c.loop-at.rows c.loop-at.word ran;
       full = ran.full;
       rows = rows_behind (slots rows) g c.loop-at.rows c.loop-at.word ran;
-      kept = kept_behind (slots rows) g c.loop-at.rows c.loop-at.word ran old.keys c.loop-at.self.keys old.count c.loop-at.place c.requires filtered;
+      kept = kept_behind (slots rows) g c.loop-at.rows c.loop-at.word ran old.keys now.keys old.count now.count c.requires filtered;
     }

@@ -7,5 +7,5 @@ use Rattle.dispatch.proofs.jobs.Jobs.run.Given as goal
 -- the jobs from place first to place at have run, and of their keys those that stay have moved down
 abbrev pub invariant-loop-at : goal.invariant-loop-at
 invariant-loop-at l =
-    Ran (slots l.initial.rows) l.given (l.initial.self.count - l.at) l.rows l.word
-    × Filtered l.initial.self.keys l.self.keys l.place l.at (stays (slots l.initial.rows) l.given)
+    Ran (slots l.initial.rows) l.given (l.end - l.at) l.rows l.word
+    × Filtered l.initial.self.keys l.self.keys l.self.count l.at (stays (slots l.initial.rows) l.given)

@@ -7,9 +7,7 @@ use Rattle.dispatch.proofs.Waiting.{waits_none}
 use Rattle.dispatch.proofs.table.TaskTable.new.Goals as goal
 
 pub invariant_of-result : goal.invariant_of-result
-invariant_of-result c =
-    let none = c.none.ensures in
-    record { full = refl; times = (λ i. ap carded (slots_blank i)); room = none.sorted.room; few = none.sorted.few; ordered = none.sorted.ordered; kept = (λ x. none.holds x ∙ sym (waits_none _ (λ i. ap unfinished (slots_blank i)) x)) }
+invariant_of-result c = record { full = refl; times = λ i. ap carded (slots_blank i); kept = λ x. c.none.ensures x ∙ sym (waits_none _ (λ i. ap unfinished (slots_blank i)) x) }
 
 pub returns : goal.returns
 returns c = fun_ext slots_blank
