@@ -42,11 +42,24 @@ dropped_more true true stays h = refl
 dropped_more true false stays h = sym (h refl)
 dropped_more false old stays h = refl
 
+-- fewer of the keys are in order as well
+pub sorted_less : (keys : List ℕ) (n m : ℕ) → m ≤ n → Sorted keys n → Sorted keys m
+sorted_less keys n m le sorted = record { room = sorted.room; few = omega (arith, sorted.few); ordered = λ p q h. sorted.ordered p q (h.0, omega (arith, h.1)) }
+
+-- a write behind them leaves them in order
+pub sorted_set : (keys : List ℕ) (n at key : ℕ) → n ≤ at → Sorted keys n → Sorted (set keys at key) n
+sorted_set keys n at key le sorted =
+    record {
+      room = length-set keys at key ∙ sorted.room;
+      few = sorted.few;
+      ordered = λ p q h. omega (arith, get_or-set_other keys at q key 0 (λ e. omega (arith, h.1)), get_or-set_other keys at p key 0 (λ e. omega (arith, h.0, h.1)), sorted.ordered p q h);
+    }
+
 -- nothing is taken out of the first keys, where all of them pass
 pub filtered_none : (keys : List ℕ) (n at : ℕ) (stays : ℕ → Bool) → Sorted keys n → at ≤ n → ((x : ℕ) → among keys at x ≡ true → stays x ≡ true) → Filtered keys keys at at stays
 filtered_none keys n at stays sorted within pass =
     record {
-      sorted = record { room = sorted.room; few = omega (arith, sorted.few); ordered = λ p q h. sorted.ordered p q (h.0, omega (arith, h.1)) };
+      sorted = sorted_less keys n at within sorted;
       le = omega arith;
       rest = λ p h. refl;
       holds = λ x. all (among keys at x) (stays x) (pass x);
@@ -64,16 +77,13 @@ module _ (old keys : List ℕ) (kept at key : ℕ) (stays : ℕ → Bool) (so : 
   filtered_drop : (n : ℕ) → stays key ≡ false → Sorted old n → at < n → Filtered old (set keys kept key) kept (at + 1) stays
   filtered_drop n fails whole below =
       record {
-        sorted = record { room = length-set keys kept key ∙ so.sorted.room; few = so.sorted.few; ordered = in_order };
+        sorted = sorted_set keys kept kept key (omega arith) so.sorted;
         le = omega (arith, so.le);
         rest = λ p h. get_or-set_other keys kept p key 0 (λ e. omega (arith, so.le)) ∙ so.rest p (omega arith);
         holds = λ x.
             among_set keys kept key x ∙ so.holds x ∙ dropped_more (eqb (get_or old at 0) x) (among old at x) (stays x) (stays_same false fails x)
             ∙ ap (λ b. b && stays x) (sym (among_more old at x));
       }
-    where
-      in_order : (p q : ℕ) → (p < q) × (q < kept) → get_or (set keys kept key) q 0 < get_or (set keys kept key) p 0
-      in_order p q h = omega (arith, get_or-set_other keys kept q key 0 (λ r. omega (arith, h.1)), get_or-set_other keys kept p key 0 (λ r. omega (arith, h.0, h.1)), so.sorted.ordered p q h)
 
   -- it passes, and is kept
   filtered_keep : (n : ℕ) → stays key ≡ true → Sorted old n → at < n → Filtered old (set keys kept key) (kept + 1) (at + 1) stays
@@ -131,27 +141,68 @@ in_front keys n key sorted i j d le below later = go (cases_eq i j)
     go (inl e) = ap (λ p. ltb key (get_or (take n keys) p d)) e ∙ later
     go (inr ne) = lt-ltb _ _ (omega (arith, ltb-true key _ later, at i (omega (arith, long)), at j (omega (arith, long)), sorted.ordered i j (omega arith, omega (arith, long))))
 
--- the keys from place at on have moved up by one, and a key is put in there: those in front of it are later, the others sooner
-module _ (old keys : List ℕ) (at n key : ℕ) (whole : Sorted old n) (few : n < 32) (le : at ≤ n) (room : length keys ≡ 32) (before : (p : ℕ) → p < at → get_or keys p 0 ≡ get_or old p 0) (behind : (p : ℕ) → at ≤ p → p < n → get_or keys (p + 1) 0 ≡ get_or old p 0) (later : (p : ℕ) → p < at → key < get_or old p 0) (sooner : (p : ℕ) → at ≤ p → p < n → get_or old p 0 < key) where
+-- the first n keys with a free place: those behind it have moved up by one, and are sooner than the key that is put in
+pub record Opened (old keys : List ℕ) (at n key : ℕ) : Type 0 where
+  pub room : length keys ≡ 32
+  pub le : at ≤ n
+  pub before : (p : ℕ) → p < at → get_or keys p 0 ≡ get_or old p 0
+  pub behind : (p : ℕ) → at ≤ p → p < n → get_or keys (p + 1) 0 ≡ get_or old p 0
+  pub sooner : (p : ℕ) → at ≤ p → p < n → get_or old p 0 < key
+
+pub opened_more : (old keys : List ℕ) (at n key moved : ℕ) → n < 32 → Opened old keys at n key → 0 < at → moved ≡ get_or keys (at - 1) 0 → moved < key → Opened old (set keys at moved) (at - 1) n key
+opened_more old keys at n key moved few so some is less =
+    record {
+      room = length-set keys at moved ∙ so.room;
+      le = omega (arith, so.le);
+      before = λ p h. get_or-set_other keys at p moved 0 (λ e. omega arith) ∙ so.before p (omega arith);
+      behind = λ p h l. behind p h l (cases_eq (p + 1) at);
+      sooner = λ p h l. sooner p h l (cases_eq (p + 1) at);
+    }
+  where
+    last : moved ≡ get_or old (at - 1) 0
+    last = is ∙ so.before (at - 1) (omega arith)
+
+    behind : (p : ℕ) → at - 1 ≤ p → p < n → (p + 1 ≡ at) ⊎ (p + 1 ≡ at → ⊥) → get_or (set keys at moved) (p + 1) 0 ≡ get_or old p 0
+    behind p h l (inl e) = ap (λ k. get_or (set keys at moved) k 0) e ∙ get_or-set_same keys at moved 0 (omega (arith, so.le, so.room)) ∙ last ∙ ap (λ k. get_or old k 0) (omega arith)
+    behind p h l (inr ne) = get_or-set_other keys at (p + 1) moved 0 ne ∙ so.behind p (omega arith) l
+
+    sooner : (p : ℕ) → at - 1 ≤ p → p < n → (p + 1 ≡ at) ⊎ (p + 1 ≡ at → ⊥) → get_or old p 0 < key
+    sooner p h l (inl e) = let same : get_or old p 0 ≡ get_or old (at - 1) 0 = ap (λ k. get_or old k 0) (omega arith) in omega (arith, same, last)
+    sooner p h l (inr ne) = so.sooner p (omega arith) l
+
+-- the keys in front of the free place are later than one that is no later than the last of them
+later_keys : (old : List ℕ) (at n key : ℕ) → Sorted old n → among old n key ≡ false → at ≤ n → (0 < at → key ≤ get_or old (at - 1) 0) → (p : ℕ) → p < at → key < get_or old p 0
+later_keys old at n key whole new le stop p h = go (cases_eq (get_or old p 0) key) (cases_eq p (at - 1))
+  where
+    go : (get_or old p 0 ≡ key) ⊎ (get_or old p 0 ≡ key → ⊥) → (p ≡ at - 1) ⊎ (p ≡ at - 1 → ⊥) → key < get_or old p 0
+    go (inl e) o = absurd (both_ways (among old n key) new ((among_place old key n).1 (p, omega arith, e)))
+    go (inr ne) (inl e) = let same : get_or old p 0 ≡ get_or old (at - 1) 0 = ap (λ k. get_or old k 0) e in omega (arith, same, stop (omega arith), ne)
+    go (inr ne) (inr o) = omega (arith, stop (omega arith), whole.ordered p (at - 1) (omega arith, omega arith))
+
+-- the key is put in there
+module _ (old keys : List ℕ) (at n key : ℕ) (so : Opened old keys at n key) (whole : Sorted old n) (few : n < 32) (new : among old n key ≡ false) (stop : 0 < at → key ≤ get_or keys (at - 1) 0) where
+  later : (p : ℕ) → p < at → key < get_or old p 0
+  later = later_keys old at n key whole new so.le (λ h. omega (arith, stop h, so.before (at - 1) (omega arith)))
+
   abbrev closed : ℕ → ℕ
   closed p = get_or (set keys at key) p 0
 
   closed_before : (p : ℕ) → p < at → closed p ≡ get_or old p 0
-  closed_before p h = get_or-set_other keys at p key 0 (λ e. omega arith) ∙ before p h
+  closed_before p h = get_or-set_other keys at p key 0 (λ e. omega arith) ∙ so.before p h
 
   closed_at : closed at ≡ key
-  closed_at = get_or-set_same keys at key 0 (omega arith)
+  closed_at = get_or-set_same keys at key 0 (omega (arith, so.le, so.room))
 
   closed_up : (q : ℕ) → at < q → q < n + 1 → closed q ≡ get_or old (q - 1) 0
-  closed_up q h l = get_or-set_other keys at q key 0 (λ e. omega arith) ∙ ap (λ k. get_or keys k 0) (omega arith) ∙ behind (q - 1) (omega arith) (omega arith)
+  closed_up q h l = get_or-set_other keys at q key 0 (λ e. omega arith) ∙ ap (λ k. get_or keys k 0) (omega arith) ∙ so.behind (q - 1) (omega arith) (omega arith)
 
   pub closed_sorted : Sorted (set keys at key) (n + 1)
-  closed_sorted = record { room = length-set keys at key ∙ room; few = omega arith; ordered = λ p q h. go p q h.0 h.1 (cases_order q at) (cases_order p at) }
+  closed_sorted = record { room = length-set keys at key ∙ so.room; few = omega arith; ordered = λ p q h. go p q h.0 h.1 (cases_order q at) (cases_order p at) }
     where
       go : (p q : ℕ) → p < q → q < n + 1 → (q ≡ at) ⊎ ((q < at) ⊎ (at < q)) → (p ≡ at) ⊎ ((p < at) ⊎ (at < p)) → closed q < closed p
       go p q less h (inl e) o = omega (arith, ap closed e, closed_at, closed_before p (omega arith), later p (omega arith))
-      go p q less h (inr (inl l)) o = omega (arith, closed_before q l, closed_before p (omega arith), whole.ordered p q (less, omega arith))
-      go p q less h (inr (inr l)) (inl e) = omega (arith, closed_up q l h, ap closed e, closed_at, sooner (q - 1) (omega arith) (omega arith))
+      go p q less h (inr (inl l)) o = omega (arith, closed_before q l, closed_before p (omega arith), whole.ordered p q (less, omega (arith, so.le)))
+      go p q less h (inr (inr l)) (inl e) = omega (arith, closed_up q l h, ap closed e, closed_at, so.sooner (q - 1) (omega arith) (omega arith))
       go p q less h (inr (inr l)) (inr (inl b)) = omega (arith, closed_up q l h, closed_before p b, whole.ordered p (q - 1) (omega arith, omega arith))
       go p q less h (inr (inr l)) (inr (inr b)) = omega (arith, closed_up q l h, closed_up p b (omega arith), whole.ordered (p - 1) (q - 1) (omega arith, omega arith))
 
@@ -166,11 +217,11 @@ module _ (old keys : List ℕ) (at n key : ℕ) (whole : Sorted old n) (few : n 
         where
           go : (w.0 ≡ at) ⊎ ((w.0 < at) ⊎ (at < w.0)) → (key ≡ x) ⊎ ((p : ℕ) × (p < n) × (get_or old p 0 ≡ x))
           go (inl e) = inl (sym closed_at ∙ ap closed (sym e) ∙ w.2)
-          go (inr (inl l)) = inr (w.0, omega arith, sym (closed_before w.0 l) ∙ w.2)
+          go (inr (inl l)) = inr (w.0, omega (arith, so.le), sym (closed_before w.0 l) ∙ w.2)
           go (inr (inr l)) = inr (w.0 - 1, omega (arith, w.1), sym (closed_up w.0 l w.1) ∙ w.2)
 
       back : (key ≡ x) ⊎ ((p : ℕ) × (p < n) × (get_or old p 0 ≡ x)) → (p : ℕ) × (p < n + 1) × (closed p ≡ x)
-      back (inl e) = (at, omega arith, closed_at ∙ e)
+      back (inl e) = (at, omega (arith, so.le), closed_at ∙ e)
       back (inr w) = go (cases_lt w.0 at)
         where
           go : (w.0 < at) ⊎ (at ≤ w.0) → (p : ℕ) × (p < n + 1) × (closed p ≡ x)
@@ -233,14 +284,6 @@ among_without keys n key none x = go (eqb key x) refl
         both : (a : Bool) → a ≡ (a && true)
         both true = refl
         both false = refl
-
--- keys that are no later than a new one are sooner
-pub sooner_keys : (keys : List ℕ) (at n key : ℕ) → among keys n key ≡ false → ((p : ℕ) → (at ≤ p) × (p < n) → get_or keys p 0 ≤ key) → (p : ℕ) → at ≤ p → p < n → get_or keys p 0 < key
-sooner_keys keys at n key new no_later p h l = go (cases_eq (get_or keys p 0) key)
-  where
-    go : (get_or keys p 0 ≡ key) ⊎ (get_or keys p 0 ≡ key → ⊥) → get_or keys p 0 < key
-    go (inl e) = absurd (both_ways (among keys n key) new ((among_place keys key n).1 (p, l, e)))
-    go (inr ne) = omega (arith, no_later p (h, l), ne)
 
 -- a key is not among the others where it does not stand at its place
 pub not_at_place : (keys : List ℕ) (at n key : ℕ) → Sorted keys n → ((p : ℕ) → p < at → key < get_or keys p 0) → ((p : ℕ) → (at ≤ p) × (p < n) → get_or keys p 0 ≤ key) → (at < n → get_or keys at 0 ≡ key → ⊥) → among keys n key ≡ false

@@ -86,10 +86,16 @@ impl Jobs {
         requires new { among self.old.keys self.old.count key ≡ false }
         ensures { (x : ℕ) → among self.new.keys self.new.count x ≡ (key == x || among self.old.keys self.old.count x) }
     {
-        let at = self.place(key);
-        self.keys.copy_within(at..self.count, at + 1);
+        let count = self.count;
+        // no key counts while they move, by hand: with `partition_point` and `copy_within` a release takes 1.3 times as long
+        self.count = 0;
+        let mut at = count;
+        while at > 0 && self.keys[at - 1] < key {
+            self.keys[at] = self.keys[at - 1];
+            at -= 1;
+        }
         self.keys[at] = key;
-        self.count += 1;
+        self.count = count + 1;
     }
 
     // Takes a key out, if it is there.
@@ -160,14 +166,16 @@ impl Jobs {
         let end = self.count;
         let first = end.saturating_sub(given as usize);
         self.count = first;
+        let mut place = first;
         let mut word = 0;
         for at in first..end {
             let key = self.keys[at];
             let id = (key % NUMBERS) as usize;
             word |= 1 << id;
-            self.keys[self.count] = key;
-            self.count += usize::from(work(&mut rows[id]));
+            self.keys[place] = key;
+            place += usize::from(work(&mut rows[id]));
         }
+        self.count = place;
         word
     }
 }

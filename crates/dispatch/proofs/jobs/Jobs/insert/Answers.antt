@@ -1,21 +1,26 @@
-use Rattle.std.proofs.Common.{◌+◌, get_or, ap, ◌∙◌, arith}
-use Rattle.dispatch.proofs.Keys.{closed_sorted, closed_holds, sooner_keys}
+use Rattle.std.proofs.Common.{◌-◌, ◌<◌, ◌≤◌, get_or, refl, arith}
+use Rattle.dispatch.proofs.Keys.{opened_more, closed_sorted, closed_holds}
 use Rattle.dispatch.proofs.jobs.Jobs.insert.Goals as goal
+use Rattle.dispatch.proofs.jobs.Jobs.insert.Goals.{then-loop-at-test+else-self-at, else-loop-at-test}
 
-pub invariant_of-self : goal.invariant_of-self
-invariant_of-self c =
+pub loop-at-preserved : goal.loop-at-preserved
+loop-at-preserved c =
+    (c.loop-at.invariant.0, opened_more _ c.loop-at.self.keys c.loop-at.at c.args.self.now.count c.args.key _ c.requires.few c.loop-at.invariant.1 c.loop-at-test.true refl c.if-self-at.true)
+
+pub invariant_of-self-2 : goal.invariant_of-self-2
+invariant_of-self-2 c =
     let old = c.args.self.now in
-    let keys = c.copy_within.new.self in
-    let at = c.place-at.result in
-    let place = c.place-at.ensures in
-    let moved = c.copy_within.ensures.by_index in
-    record { sorted = closed_sorted old.keys keys at old.count c.args.key old.sorted c.requires.few place.within (omega (arith, c.copy_within.ensures.len, old.sorted.room)) (λ p h. moved.1 p 0 (omega arith)) (λ p h l. moved.0 (p + 1) 0 (omega arith) (omega arith) ∙ ap (λ k. get_or old.keys k 0) (omega arith)) place.later (sooner_keys old.keys at old.count c.args.key c.requires.new place.sooner) }
+    let stop : 0 < c.loop-at.at → c.args.key ≤ get_or c.loop-at.self.keys (c.loop-at.at - 1) 0 = elim c.loop-at-test.branch [
+      | then-loop-at-test+else-self-at w ↦ λ _. w.if-self-at.false
+      | else-loop-at-test w ↦ λ h. absurd (omega (arith, w.loop-at-test.false))
+    ] in
+    record { sorted = closed_sorted old.keys c.loop-at.self.keys c.loop-at.at old.count c.args.key c.loop-at.invariant.1 old.sorted c.requires.few c.requires.new stop }
 
 pub returns : goal.returns
 returns c =
     let old = c.args.self.now in
-    let keys = c.copy_within.new.self in
-    let at = c.place-at.result in
-    let place = c.place-at.ensures in
-    let moved = c.copy_within.ensures.by_index in
-    closed_holds old.keys keys at old.count c.args.key old.sorted c.requires.few place.within (omega (arith, c.copy_within.ensures.len, old.sorted.room)) (λ p h. moved.1 p 0 (omega arith)) (λ p h l. moved.0 (p + 1) 0 (omega arith) (omega arith) ∙ ap (λ k. get_or old.keys k 0) (omega arith)) place.later (sooner_keys old.keys at old.count c.args.key c.requires.new place.sooner)
+    let stop : 0 < c.loop-at.at → c.args.key ≤ get_or c.loop-at.self.keys (c.loop-at.at - 1) 0 = elim c.loop-at-test.branch [
+      | then-loop-at-test+else-self-at w ↦ λ _. w.if-self-at.false
+      | else-loop-at-test w ↦ λ h. absurd (omega (arith, w.loop-at-test.false))
+    ] in
+    closed_holds old.keys c.loop-at.self.keys c.loop-at.at old.count c.args.key c.loop-at.invariant.1 old.sorted c.requires.few c.requires.new stop

@@ -1,7 +1,7 @@
 use Rattle.std.proofs.Common.{◌≡◌, ◌+◌, get_or, sym, refl, ap, ◌∙◌, subst, arith}
 use mir.Val.{bool_byte}
 use Rattle.dispatch.specs.Rows.{slots}
-use Rattle.dispatch.proofs.Keys.{Filtered, filtered_none, filtered_more}
+use Rattle.dispatch.proofs.Keys.{Filtered, filtered_none, filtered_more, sorted_set}
 use Rattle.dispatch.proofs.Places.{InOrder}
 use Rattle.dispatch.proofs.Tables.{unfinished_below}
 use Rattle.dispatch.proofs.Ticks.{Ran, stays, ran_first, stays_first, lacks_here, stays_here, ran_more, rows_behind, word_behind, kept_behind}
@@ -17,6 +17,8 @@ loop-at-init c =
     let within = unfinished_below rows c.told-rows in (
       ran_first (slots rows) old.keys old.count kept within c.args.given first from rows c.told-rows (λ i. refl),
       filtered_none old.keys old.count first (stays (slots rows) c.args.given) old.sorted (omega (arith, from)) (stays_first (slots rows) old.keys old.count kept within c.args.given first from),
+      refl,
+      omega arith,
     )
 
 pub work-requires : goal.work-requires
@@ -30,17 +32,8 @@ work-requires c =
 
 pub invariant_of-self-in-loop-at : goal.invariant_of-self-in-loop-at
 invariant_of-self-in-loop-at c =
-    let slot = slots c.args.rows.now in
-    let old = c.args.self.now in
-    let kept : InOrder slot old.keys old.count = record { sorted = old.sorted; holds = c.requires } in
     let now = c.loop-at.self in
-    let at = c.loop-at.at in
-    let g = c.args.given in
-    let within = unfinished_below c.args.rows.now c.told-rows in
-    let key = get_or now.keys at 0 in
-    let filtered = c.loop-at.invariant.1 in
-    let test = stays_here slot old.keys old.count kept within g c.saturating_sub-first.result c.saturating_sub-first.ensures at key c.loop-at-test.true c.loop-at.auto.at (filtered.rest at (omega arith)) c.loop-at.rows c.loop-at.word c.loop-at.invariant.0 ∙ sym c.work.ensures.more in
-    record { sorted = (filtered_more old.keys now.keys now.count at key (stays slot g) filtered refl old.count (now.count + c.from.result) old.sorted c.loop-at-test.true (ap (λ b. now.count + b) (c.from.ensures ∙ ap bool_byte (sym test)))).sorted }
+    record { sorted = sorted_set now.keys now.count c.loop-at.place (get_or now.keys c.loop-at.at 0) (omega (arith, c.loop-at.invariant.2, c.loop-at.invariant.3)) now.sorted }
 
 pub loop-at-preserved : goal.loop-at-preserved
 loop-at-preserved c =
@@ -58,7 +51,9 @@ loop-at-preserved c =
     let is = filtered.rest at (omega arith) in
     let test = stays_here slot old.keys old.count kept within g first from at key c.loop-at-test.true c.loop-at.auto.at is c.loop-at.rows c.loop-at.word c.loop-at.invariant.0 ∙ sym c.work.ensures.more in (
       ran_more slot old.keys old.count kept within g first from at key c.loop-at-test.true c.loop-at.auto.at is c.loop-at.rows c.loop-at.word c.loop-at.invariant.0 c.work.new.row c.work.ensures.row,
-      filtered_more old.keys now.keys now.count at key (stays slot g) filtered refl old.count (now.count + c.from.result) old.sorted c.loop-at-test.true (ap (λ b. now.count + b) (c.from.ensures ∙ ap bool_byte (sym test))),
+      filtered_more old.keys now.keys c.loop-at.place at key (stays slot g) filtered refl old.count (c.loop-at.place + c.from-place.result) old.sorted c.loop-at-test.true (ap (λ b. c.loop-at.place + b) (c.from-place.ensures ∙ ap bool_byte (sym test))),
+      c.loop-at.invariant.2,
+      omega (arith, c.loop-at.invariant.3),
     )
 
 pub returns : goal.returns
@@ -69,10 +64,10 @@ returns c =
     let g = c.args.given in
     let end : c.loop-at.at ≡ old.count = omega (arith, c.loop-at.auto, c.loop-at-test.false, c.saturating_sub-first.ensures) in
     let ran = subst (λ m. Ran (slots rows) g m c.loop-at.rows c.loop-at.word) (omega (arith, end)) c.loop-at.invariant.0 in
-    let filtered = subst (λ n. Filtered old.keys now.keys now.count n (stays (slots rows) g)) end c.loop-at.invariant.1 in
+    let filtered = subst (λ n. Filtered old.keys now.keys c.loop-at.place n (stays (slots rows) g)) end c.loop-at.invariant.1 in
     record {
       word = word_behind (slots rows) g c.loop-at.rows c.loop-at.word ran;
       full = ran.full;
       rows = rows_behind (slots rows) g c.loop-at.rows c.loop-at.word ran;
-      kept = kept_behind (slots rows) g c.loop-at.rows c.loop-at.word ran old.keys now.keys old.count now.count c.requires filtered;
+      kept = kept_behind (slots rows) g c.loop-at.rows c.loop-at.word ran old.keys now.keys old.count c.loop-at.place c.requires filtered;
     }
