@@ -3,7 +3,7 @@ use Rattle.std.proofs.Common.{◌≡◌, ℕ, ◌+◌, ◌-◌, ◌<◌, ◌≤�
 use mir.Val.{bool_byte}
 use Rattle.std.specs.List.Sorted.{IsPartitionedBy}
 use Rattle.std.proofs.lemmas.List.{get_or-take, length-take-le, get_or_default}
-use Rattle.std.proofs.lemmas.Bool.{lt-ltb, ltb-true, cases_eq, cases_Bool, cases_order, cases_lt, and_parts, eqb-true, both_ways}
+use Rattle.std.proofs.lemmas.Bool.{false_from_ne_true, lt-ltb, ltb-true, cases_eq, cases_Bool, cases_order, cases_lt, and_parts, eqb-true, both_ways}
 use Rattle.std.proofs.lemmas.Bool.Decides.{Decides-eqb, Decides-below_or, Decides-like, Decides-or, Decides-and, Decides-not, same_from_decides}
 use Rattle.dispatch.specs.Keys.{among, Sorted}
 
@@ -267,11 +267,7 @@ module _ (old keys : List ℕ) (at n key : ℕ) (whole : Sorted old n) (within :
 
 -- a key that stands at none of the places is not among them
 pub not_among : (keys : List ℕ) (n key : ℕ) → ((p : ℕ) → p < n → get_or keys p 0 ≡ key → ⊥) → among keys n key ≡ false
-not_among keys n key none = go (cases_Bool (among keys n key))
-  where
-    go : (among keys n key ≡ true) ⊎ (among keys n key ≡ false) → among keys n key ≡ false
-    go (inl t) = let w = (among_place keys key n).0 t in absurd (none w.0 w.1 w.2)
-    go (inr f) = f
+not_among keys n key none = false_from_ne_true _ (λ t. let w = (among_place keys key n).0 t in none w.0 w.1 w.2)
 
 -- there is nothing to take out where a key is not among the others
 pub among_without : (keys : List ℕ) (n key : ℕ) → among keys n key ≡ false → (x : ℕ) → among keys n x ≡ (among keys n x && not (eqb key x))

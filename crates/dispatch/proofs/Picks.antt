@@ -2,7 +2,7 @@
 use Rattle.std.proofs.Common.{◌≡◌, ℕ, ◌+◌, ◌*◌, ◌%◌, ◌^◌, ◌<◌, ◌≤◌, Bool, true, false, cond, ◌⊎◌, List, length, get_or, set, sym, refl, ap, ◌∙◌, inl, inr, arith, get_or-set_other, get_or-set_same}
 use lib.Bits.{bit_or}
 use Rattle.std.proofs.lemmas.Nat.{one_shl}
-use Rattle.std.proofs.lemmas.Bool.{cases_eq, cases_Bool, cases_order}
+use Rattle.std.proofs.lemmas.Bool.{true_from_ne_false, cases_eq, cases_order}
 use Rattle.std.proofs.lemmas.Bool.Decides.{nat_tests}
 use Rattle.schedule.specs.declared.TaskRow.{TaskRow}
 use Rattle.schedule.specs.Order.{unfinished, due, ahead, runs, word, names}
@@ -50,11 +50,7 @@ module _ (slot : ℕ → TaskRow) (g : ℕ) (times : List ℕ) (left : Left slot
           ahead_by slot k i (omega (arith, mine, best.soonest i below)) (λ l. omega (arith, mine, best.first i l))
 
   pub none_by_time : get_or times k 0 ≡ never → ((i : ℕ) → i < 32 → unfinished (slot i) ≡ true → due (slot i) < never) → (i : ℕ) → i < 32 → unfinished (slot i) ≡ true → runs slot g i ≡ true
-  none_by_time none sooner i below u = go (cases_Bool (runs slot g i))
-    where
-      go : (runs slot g i ≡ true) ⊎ (runs slot g i ≡ false) → runs slot g i ≡ true
-      go (inl r) = r
-      go (inr out) = absurd (omega (arith, sooner i below u, best.soonest i below, time_left i below u out))
+  none_by_time none sooner i below u = true_from_ne_false _ (λ out. omega (arith, sooner i below u, best.soonest i below, time_left i below u out))
 
 pub due_sooner : (r : TaskRow) (t : ℕ) → t ≡ due_time r → unfinished r ≡ true → t < never → due r < never
 due_sooner r t is u sooner = let e : due_time r ≡ due r = rw u refl in omega (arith, is ∙ e)

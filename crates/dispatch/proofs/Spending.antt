@@ -15,7 +15,7 @@ use Rattle.dispatch.proofs.Words.{bit_test}
 abbrev pub Paid : List TaskRow → ℕ → ℕ → List TaskRow → Type 0
 Paid old w i rows = (length rows ≡ 32) × ((k : ℕ) → get_or rows k blank ≡ spent (ltb k i && eqb (names w k) 1) (get_or old k blank))
 
-spent_none : (r : TaskRow) → spent false r ≡ r
+pub spent_none : (r : TaskRow) → spent false r ≡ r
 spent_none r = ap (with_job r r.latest) (sub-zero r.lacking)
 
 spent_blank : (b c : Bool) → spent b blank ≡ spent c blank

@@ -1,6 +1,6 @@
 -- The keys of the unfinished jobs, as a row is replaced by another. Assumes nothing.
 use Rattle.std.proofs.Common.{◌≡◌, ℕ, ◌<◌, ◌≤◌, Bool, true, false, not, ◌&&◌, ◌||◌, eqb, ◌⊎◌, List, length, get_or, set, sym, refl, ap, ◌∙◌, inl, inr, arith}
-use Rattle.std.proofs.lemmas.Bool.{cases_eq, cases_lt, cases_Bool, and_parts, and_left, eqb-true, eq-eqb, ne_eqb}
+use Rattle.std.proofs.lemmas.Bool.{false_from_ne_true, cases_eq, cases_lt, cases_Bool, and_parts, and_left, eqb-true, eq-eqb, ne_eqb}
 use Rattle.schedule.specs.declared.TaskRow.{TaskRow}
 use Rattle.schedule.specs.Calls.{quiet}
 use Rattle.schedule.specs.Order.{unfinished}
@@ -48,11 +48,7 @@ count_quiet slot keys n kept = go (cases_lt 0 n)
 module _ (slot : ℕ → TaskRow) (id : ℕ) (below : id < 32) where
   -- the key of another number is not that of row id
   others_key : (r : TaskRow) (x : ℕ) → (id_of x ≡ id → ⊥) → keyed id r x ≡ false
-  others_key r x ne = go (cases_Bool (keyed id r x))
-    where
-      go : (keyed id r x ≡ true) ⊎ (keyed id r x ≡ false) → keyed id r x ≡ false
-      go (inl t) = absurd (ne (ap id_of (sym (eqb-true (key_of id r) x (and_parts _ _ t).1)) ∙ number_key id r below))
-      go (inr f) = f
+  others_key r x ne = false_from_ne_true _ (λ t. ne (ap id_of (sym (eqb-true (key_of id r) x (and_parts _ _ t).1)) ∙ number_key id r below))
 
   -- the keys without that of row id
   waits_left : (x : ℕ) → waits slot x && not (keyed id (slot id) x) ≡ waits (put slot id blank) x

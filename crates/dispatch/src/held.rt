@@ -8,6 +8,7 @@ use crate::table::{ROWS, TaskTable};
 mod keeping;
 
 // At the number of each task that is held stands its load, so that an admission adds charges and does not count them anew.
+// The loads lie beside the rows: what is said of jobs and ticks is said of the rows alone.
 #[derive(Clone, Copy)]
 pub(crate) struct HeldTasks {
     pub(crate) table: TaskTable,

@@ -28,12 +28,9 @@ cons_head x y xs ys e = cc
 cons_tail : (x y : Entry) (xs ys : List Entry) → x ∷ xs ≡ y ∷ ys → xs ≡ ys
 cons_tail x y xs ys e = cc
 
-nil_cons : (x : Entry) (xs : List Entry) → [] ≡ x ∷ xs → ⊥
-nil_cons x xs e = let z : ◌≡◌ {A = ℕ} 0 1 = cc in omega arith
-
 nil_append : (x : Entry) (before behind : List Entry) → [] ≡ before ++ (x ∷ behind) → ⊥
-nil_append x [] behind e = nil_cons x behind e
-nil_append x (y ∷ before) behind e = nil_cons y (before ++ (x ∷ behind)) e
+nil_append x [] behind e = cc
+nil_append x (y ∷ before) behind e = cc
 
 pub split_at : (s : State) (calls : List Call) (before : List Entry) (e : Entry) (behind : List Entry) → shift s calls ≡ before ++ (e ∷ behind) → Split s before e behind
 unfolding shift after_all calls_of

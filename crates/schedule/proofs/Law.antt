@@ -23,14 +23,14 @@ use Rattle.schedule.proofs.History.{Split, split_at, kept_all, clock_all, knows_
 
 passed_none : (o : Option Refusal) (a : Answer) → Passed ≡ answer_by o a → o ≡ None
 passed_none None a e = refl
-passed_none (Some r) a e = let z : ◌≡◌ {A = ℕ} 0 1 = cc in absurd (omega arith)
+passed_none (Some r) a e = absurd cc
 
 -- only a tick answers with processors and a word
 tick_reply : (s : State) (c : Call) (g w : ℕ) → Ticked g w ≡ reply s c → (g ≡ s.row 0) × (w ≡ word s.slot (s.row 0))
-tick_reply s (Admit id run period deadline) g w e = let z : ◌≡◌ {A = ℕ} 0 1 = cc in absurd (omega arith)
-tick_reply s (Level id) g w e = let z : ◌≡◌ {A = ℕ} 0 1 = cc in absurd (omega arith)
-tick_reply s (Withdraw id) g w e = let z : ◌≡◌ {A = ℕ} 0 1 = cc in absurd (omega arith)
-tick_reply s (Release id run) g w e = let z : ◌≡◌ {A = ℕ} 0 1 = cc in absurd (omega arith)
+tick_reply s (Admit id run period deadline) g w e = absurd cc
+tick_reply s (Level id) g w e = absurd cc
+tick_reply s (Withdraw id) g w e = absurd cc
+tick_reply s (Release id run) g w e = absurd cc
 tick_reply s Tick g w e = (cc, cc)
 
 tick_answer_lem : (s : State) (c : Call) (g w : ℕ) → Ticked g w ≡ answer s c → (g ≡ s.row 0) × (w ≡ word s.slot (s.row 0))
@@ -38,7 +38,7 @@ tick_answer_lem s c g w = go (refusal s c)
   where
     go : (o : Option Refusal) → Ticked g w ≡ answer_by o (reply s c) → (g ≡ s.row 0) × (w ≡ word s.slot (s.row 0))
     go None e = tick_reply s c g w e
-    go (Some r) e = let z : ◌≡◌ {A = ℕ} 0 1 = cc in absurd (omega arith)
+    go (Some r) e = absurd cc
 
 level_reply : (row : ℕ → ℕ) (s : State) (c : Call) (j : ℕ) → refusal s c ≡ None → Kept row (changed s c) → LevelIs j ≡ reply s c → LeastLevel (changed s c).table (changed s c).slot (task_of c) j
 level_reply row s (Admit id run period deadline) j none kept e =
@@ -47,16 +47,16 @@ level_reply row s (Admit id run period deadline) j none kept e =
 level_reply row s (Level id) j none kept e =
     let is : j ≡ witness s.table s.slot id = cc in
     rw is (kept.levels id (level_asked s id none).0 (level_asked s id none).1)
-level_reply row s (Withdraw id) j none kept e = let z : ◌≡◌ {A = ℕ} 0 1 = cc in absurd (omega arith)
-level_reply row s (Release id run) j none kept e = let z : ◌≡◌ {A = ℕ} 0 1 = cc in absurd (omega arith)
-level_reply row s Tick j none kept e = let z : ◌≡◌ {A = ℕ} 0 1 = cc in absurd (omega arith)
+level_reply row s (Withdraw id) j none kept e = absurd cc
+level_reply row s (Release id run) j none kept e = absurd cc
+level_reply row s Tick j none kept e = absurd cc
 
 level_answer_lem : (row : ℕ → ℕ) (s : State) (c : Call) (j : ℕ) → Kept row (after s c) → LevelIs j ≡ answer s c → Served s c j
 level_answer_lem row s c j = go (refusal s c) refl
   where
     go : (o : Option Refusal) → refusal s c ≡ o → Kept row (state_by o s (changed s c)) → LevelIs j ≡ answer_by o (reply s c) → LeastLevel (state_by o s (changed s c)).table (state_by o s (changed s c)).slot (task_of c) j
     go None none kept e = level_reply row s c j none kept e
-    go (Some r) some kept e = let z : ◌≡◌ {A = ℕ} 0 1 = cc in absurd (omega arith)
+    go (Some r) some kept e = absurd cc
 
 -- from its release on, a job runs for its run time by its deadline
 release_counts : (row : ℕ → ℕ) (s : State) (id run : ℕ) (cs : List Call) → Kept row s → refusal s (Release id run) ≡ None → Counts id (s.slot id).deadline (shift (after s (Release id run)) cs) run
@@ -154,11 +154,11 @@ shift_law row table bounded windows calls =
     }
 
 reply_accepted : (s : State) (c : Call) (r : Refusal) → reply s c ≡ Refused r → ⊥
-reply_accepted s (Admit id run period deadline) r e = let z : ◌≡◌ {A = ℕ} 0 1 = cc in omega arith
-reply_accepted s (Level id) r e = let z : ◌≡◌ {A = ℕ} 0 1 = cc in omega arith
-reply_accepted s (Withdraw id) r e = let z : ◌≡◌ {A = ℕ} 0 1 = cc in omega arith
-reply_accepted s (Release id run) r e = let z : ◌≡◌ {A = ℕ} 0 1 = cc in omega arith
-reply_accepted s Tick r e = let z : ◌≡◌ {A = ℕ} 0 1 = cc in omega arith
+reply_accepted s (Admit id run period deadline) r e = cc
+reply_accepted s (Level id) r e = cc
+reply_accepted s (Withdraw id) r e = cc
+reply_accepted s (Release id run) r e = cc
+reply_accepted s Tick r e = cc
 
 pub refused_stays : RefusalLaw
 refused_stays s c r = go (refusal s c)

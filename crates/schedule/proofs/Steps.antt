@@ -18,7 +18,7 @@ use Rattle.schedule.proofs.Invariant.{Kept, tick_kept, release_kept, admit_kept,
 
 ask_none : (b : Bool) (r : Refusal) (o : Option Refusal) → ask b r o ≡ None → (b ≡ true) × (o ≡ None)
 ask_none true r o e = (refl, e)
-ask_none false r o e = let z : ◌≡◌ {A = ℕ} 0 1 = cc in absurd (omega arith)
+ask_none false r o e = absurd cc
 
 ready_earliest : (y period : ℕ) (o : Option ℕ) → ready y period o ≡ true → earliest y period o ≡ y
 ready_earliest y period None h = refl

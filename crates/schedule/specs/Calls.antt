@@ -1,5 +1,6 @@
 -- The five calls: what each answers, and the state behind it. Assumes nothing.
 use Rattle.std.specs.Prelude.{◌≡◌, ℕ, suc, ◌+◌, Bool, true, cond, not, ◌&&◌, Some, None, Option, ◌==◌, nat_le, nat_lt}
+use Rattle.task.specs.Task.{timely}
 use Rattle.schedule.specs.declared.TaskRow.{TaskRow}
 use Rattle.schedule.specs.declared.Call.{Call}
 use Rattle.schedule.specs.declared.Call.TheVariants.{Admit, Level, Withdraw, Release, Tick}
@@ -18,7 +19,7 @@ ask holds r rest = cond holds rest (Some r)
 
 -- 1 ≤ run time ≤ deadline ≤ period ≤ 4,096
 abbrev pub sound : ℕ → ℕ → ℕ → Bool
-sound run period deadline = nat_le 1 run && (nat_le run deadline && (nat_le deadline period && nat_le period 4096))
+sound = timely
 
 -- the row of a task that was just admitted
 abbrev pub admitted : ℕ → ℕ → ℕ → TaskRow

@@ -8,27 +8,10 @@ ghost use Rattle.schedule.specs.Order.{OrderLaw};
 ghost use Rattle.schedule.specs.Calls.{RefusalLaw};
 ghost use Rattle.schedule.specs.Shift.{Guarantee};
 
-const NUMBER_TOO_LARGE: u32 = 21;
-
-const BAD_CARD: u32 = 22;
-
-const NUMBER_TAKEN: u32 = 23;
-
-const NO_LEVEL: u32 = 24;
-
-const NOT_HELD: u32 = 25;
-
-const JOB_UNFINISHED: u32 = 26;
-
-const BAD_RUN_TIME: u32 = 27;
-
-const TOO_SOON: u32 = 28;
-
-const CLOCK_AT_END: u32 = 29;
-
 // One row of the dispatcher's table: a task's card, the clock of its latest release since its admission, and the ticks that
 // its job still lacks.
-#[derive(Clone, Copy, PartialEq, Debug)]
+// `held` is a flag and no `Option` round the row: the definitions promise that a free row is blank in every field.
+#[derive(Clone, Copy, PartialEq, Eq, Debug)]
 pub struct TaskRow {
     pub held: bool,
     pub run: u32,
@@ -39,7 +22,7 @@ pub struct TaskRow {
 }
 
 // What a dispatcher is asked.
-#[derive(Clone, Copy, PartialEq, Debug)]
+#[derive(Clone, Copy, PartialEq, Eq, Debug)]
 pub enum Call {
     // take a task in, by its number and its card
     Admit {
@@ -66,7 +49,7 @@ pub enum Call {
 }
 
 // Why a call is refused.
-#[derive(Clone, Copy, PartialEq, Debug)]
+#[derive(Clone, Copy, PartialEq, Eq, Debug)]
 pub enum Refusal {
     // the task's number is not below 32
     NumberTooLarge,
@@ -89,7 +72,7 @@ pub enum Refusal {
 }
 
 // What it answers.
-#[derive(Clone, Copy, PartialEq, Debug)]
+#[derive(Clone, Copy, PartialEq, Eq, Debug)]
 pub enum Answer {
     // of an admission and of a level question
     Level(u32),
@@ -106,15 +89,15 @@ impl Refusal {
         ensures { result ≡ number_of self.now }
     {
         match *self {
-            Refusal::NumberTooLarge => NUMBER_TOO_LARGE,
-            Refusal::BadCard => BAD_CARD,
-            Refusal::NumberTaken => NUMBER_TAKEN,
-            Refusal::NoLevel(_) => NO_LEVEL,
-            Refusal::NotHeld => NOT_HELD,
-            Refusal::JobUnfinished => JOB_UNFINISHED,
-            Refusal::BadRunTime => BAD_RUN_TIME,
-            Refusal::TooSoon => TOO_SOON,
-            Refusal::ClockAtEnd => CLOCK_AT_END,
+            Refusal::NumberTooLarge => 21,
+            Refusal::BadCard => 22,
+            Refusal::NumberTaken => 23,
+            Refusal::NoLevel(_) => 24,
+            Refusal::NotHeld => 25,
+            Refusal::JobUnfinished => 26,
+            Refusal::BadRunTime => 27,
+            Refusal::TooSoon => 28,
+            Refusal::ClockAtEnd => 29,
         }
     }
 
