@@ -115,10 +115,6 @@ module _ (slot : ℕ → TaskRow) (loads : List ℕ) (k : ℕ) (full : length lo
       go (inl e) = absurd (true≢false (sym held ∙ ap (λ n. (slot n).held) e ∙ none))
       go (inr ne) = old i (omega arith) held
 
--- by the card of the task
-pub load_by : (slot : ℕ → TaskRow) (k v : ℕ) (t : Task) → t ≡ task_at k (slot k) → v ≡ sum 32 (others slot t.id (charge t.deadline)) → v ≡ load slot k
-load_by slot k v t is e = e ∙ ap (λ x. sum 32 (others slot x.id (charge x.deadline))) is
-
 -- what one task adds to the load of another number: its charge where it is held, else nothing
 pub other_adds : (slot : ℕ → TaskRow) (id n k v : ℕ) (t : Task) → (slot id).held ≡ false → (slot k).held ≡ true → t ≡ task_at k (slot k) → v ≡ charge n (row_of t) → v ≡ others slot id (charge n) k
 other_adds slot id n k v t free held is e =

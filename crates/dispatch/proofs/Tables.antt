@@ -59,9 +59,6 @@ module _ (rows : List TaskRow) (id : ℕ) (full : length rows ≡ 32) (times : c
   times_timely : timely (slots rows id).run (slots rows id).period (slots rows id).deadline ≡ true
   times_timely = sym (cond-true (slots rows id).held _ true held) ∙ times
 
-  pub card_asked : (ltb id 32 && timely (slots rows id).run (slots rows id).period (slots rows id).deadline) ≡ true
-  card_asked = and_from _ _ (lt-ltb id 32 (held_below rows id full held)) times_timely
-
 -- what an option that hangs on a test tells of it
 pub some_by : {A : Type 0} (b : Bool) (x y : A) → Some x ≡ cond b (Some y) None → (b ≡ true) × (x ≡ y)
 some_by true x y e = (refl, cc)

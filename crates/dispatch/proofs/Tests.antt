@@ -63,13 +63,6 @@ pub none_unserved : (table : ℕ → ℕ → ℕ) (slot : ℕ → TaskRow) → l
 unfolding first_unserved
 none_unserved table slot e = omega (arith, ltb-false _ 32 e, least_le 32 (unserved table slot))
 
-pub none_witness : (b : Bool) (w : ℕ) (o : Option ℕ) → b ≡ true → o ≡ cond b (level_found w) None → is_some o ≡ not (eqb w 0)
-none_witness b w o held is = ap is_some (is ∙ cond-true b _ None held) ∙ go (eqb w 0)
-  where
-    go : (z : Bool) → is_some (cond z None (Some w)) ≡ not z
-    go true = refl
-    go false = refl
-
 pub level_value : (b : Bool) (w : ℕ) (o : Option ℕ) → b ≡ true → o ≡ cond b (level_found w) None → unwrap_or o 0 ≡ w
 level_value b w o held is = ap (λ x. unwrap_or x 0) (is ∙ cond-true b _ None held) ∙ go (cases_eq w 0)
   where

@@ -3,10 +3,6 @@ use Rattle.dispatch.proofs.Keys.{opened_more, closed_sorted, closed_holds}
 use Rattle.dispatch.proofs.jobs.Jobs.insert.Goals as goal
 use Rattle.dispatch.proofs.jobs.Jobs.insert.Goals.{then-loop-at-test+else-self-at, else-loop-at-test}
 
-pub loop-at-preserved : goal.loop-at-preserved
-loop-at-preserved c =
-    (c.loop-at.invariant.0, opened_more _ c.loop-at.self.keys c.loop-at.at c.args.self.now.count c.args.key _ c.requires.few c.loop-at.invariant.1 c.loop-at-test.true refl c.if-self-at.true)
-
 pub invariant_of-self-2 : goal.invariant_of-self-2
 invariant_of-self-2 c =
     let old = c.args.self.now in

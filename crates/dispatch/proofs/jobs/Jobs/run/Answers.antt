@@ -1,4 +1,4 @@
-use Rattle.std.proofs.Common.{◌≡◌, ◌+◌, get_or, sym, refl, ap, ◌∙◌, subst, arith}
+use Rattle.std.proofs.Common.{◌≡◌, ◌+◌, ◌-◌, get_or, sym, refl, ap, ◌∙◌, subst, arith}
 use mir.Val.{bool_byte}
 use Rattle.dispatch.specs.Rows.{slots}
 use Rattle.dispatch.proofs.Keys.{Filtered, filtered_none, filtered_more, sorted_set}
@@ -30,11 +30,6 @@ work-requires c =
     let is = c.loop-at.invariant.1.rest c.loop-at.at (omega arith) in
     lacks_here (slots rows) old.keys old.count kept (unfinished_below rows c.told-rows) c.args.given c.saturating_sub-first.result c.saturating_sub-first.ensures c.loop-at.at key c.loop-at-test.true c.loop-at.auto.at is c.loop-at.rows c.loop-at.word c.loop-at.invariant.0
 
-pub invariant_of-self-in-loop-at : goal.invariant_of-self-in-loop-at
-invariant_of-self-in-loop-at c =
-    let now = c.loop-at.self in
-    record { sorted = sorted_set now.keys now.count c.loop-at.place (get_or now.keys c.loop-at.at 0) (omega (arith, c.loop-at.invariant.2, c.loop-at.invariant.3)) now.sorted }
-
 pub loop-at-preserved : goal.loop-at-preserved
 loop-at-preserved c =
     let slot = slots c.args.rows.now in
@@ -56,18 +51,19 @@ loop-at-preserved c =
       omega (arith, c.loop-at.invariant.3),
     )
 
-pub returns : goal.returns
-returns c =
-    let rows = c.args.rows.now in
+pub returns-clause-word : goal.returns-clause-word
+returns-clause-word c =
+    let slot = slots c.args.rows.now in
+    let end : c.args.self.now.count - c.loop-at.at ≡ 0 = omega (arith, c.loop-at-test.false) in
+    word_behind slot c.args.given c.loop-at.rows c.loop-at.word (subst (λ m. Ran slot c.args.given m c.loop-at.rows c.loop-at.word) end c.loop-at.invariant.0)
+
+pub returns-clause-kept : goal.returns-clause-kept
+returns-clause-kept c =
+    let slot = slots c.args.rows.now in
     let old = c.args.self.now in
     let now = c.loop-at.self in
     let g = c.args.given in
     let end : c.loop-at.at ≡ old.count = omega (arith, c.loop-at.auto, c.loop-at-test.false, c.saturating_sub-first.ensures) in
-    let ran = subst (λ m. Ran (slots rows) g m c.loop-at.rows c.loop-at.word) (omega (arith, end)) c.loop-at.invariant.0 in
-    let filtered = subst (λ n. Filtered old.keys now.keys c.loop-at.place n (stays (slots rows) g)) end c.loop-at.invariant.1 in
-    record {
-      word = word_behind (slots rows) g c.loop-at.rows c.loop-at.word ran;
-      full = ran.full;
-      rows = rows_behind (slots rows) g c.loop-at.rows c.loop-at.word ran;
-      kept = kept_behind (slots rows) g c.loop-at.rows c.loop-at.word ran old.keys now.keys old.count c.loop-at.place c.requires filtered;
-    }
+    let ran = subst (λ m. Ran slot g m c.loop-at.rows c.loop-at.word) (omega (arith, end)) c.loop-at.invariant.0 in
+    let filtered = subst (λ n. Filtered old.keys now.keys c.loop-at.place n (stays slot g)) end c.loop-at.invariant.1 in
+    kept_behind slot g c.loop-at.rows c.loop-at.word ran old.keys now.keys old.count c.loop-at.place c.requires filtered
