@@ -149,27 +149,6 @@ pub record Opened (old keys : List ℕ) (at n key : ℕ) : Type 0 where
   pub behind : (p : ℕ) → at ≤ p → p < n → get_or keys (p + 1) 0 ≡ get_or old p 0
   pub sooner : (p : ℕ) → at ≤ p → p < n → get_or old p 0 < key
 
-pub opened_more : (old keys : List ℕ) (at n key moved : ℕ) → n < 32 → Opened old keys at n key → 0 < at → moved ≡ get_or keys (at - 1) 0 → moved < key → Opened old (set keys at moved) (at - 1) n key
-opened_more old keys at n key moved few so some is less =
-    record {
-      room = length-set keys at moved ∙ so.room;
-      le = omega (arith, so.le);
-      before = λ p h. get_or-set_other keys at p moved 0 (λ e. omega arith) ∙ so.before p (omega arith);
-      behind = λ p h l. behind p h l (cases_eq (p + 1) at);
-      sooner = λ p h l. sooner p h l (cases_eq (p + 1) at);
-    }
-  where
-    last : moved ≡ get_or old (at - 1) 0
-    last = is ∙ so.before (at - 1) (omega arith)
-
-    behind : (p : ℕ) → at - 1 ≤ p → p < n → (p + 1 ≡ at) ⊎ (p + 1 ≡ at → ⊥) → get_or (set keys at moved) (p + 1) 0 ≡ get_or old p 0
-    behind p h l (inl e) = ap (λ k. get_or (set keys at moved) k 0) e ∙ get_or-set_same keys at moved 0 (omega (arith, so.le, so.room)) ∙ last ∙ ap (λ k. get_or old k 0) (omega arith)
-    behind p h l (inr ne) = get_or-set_other keys at (p + 1) moved 0 ne ∙ so.behind p (omega arith) l
-
-    sooner : (p : ℕ) → at - 1 ≤ p → p < n → (p + 1 ≡ at) ⊎ (p + 1 ≡ at → ⊥) → get_or old p 0 < key
-    sooner p h l (inl e) = let same : get_or old p 0 ≡ get_or old (at - 1) 0 = ap (λ k. get_or old k 0) (omega arith) in omega (arith, same, last)
-    sooner p h l (inr ne) = so.sooner p (omega arith) l
-
 -- the keys in front of the free place are later than one that is no later than the last of them
 later_keys : (old : List ℕ) (at n key : ℕ) → Sorted old n → among old n key ≡ false → at ≤ n → (0 < at → key ≤ get_or old (at - 1) 0) → (p : ℕ) → p < at → key < get_or old p 0
 later_keys old at n key whole new le stop p h = go (cases_eq (get_or old p 0) key) (cases_eq p (at - 1))
@@ -230,15 +209,6 @@ module _ (old keys : List ℕ) (at n key : ℕ) (so : Opened old keys at n key) 
 
 -- the keys behind place at have moved down by one, over the one that stood there
 module _ (old keys : List ℕ) (at n key : ℕ) (whole : Sorted old n) (within : at < n) (is : get_or old at 0 ≡ key) (room : length keys ≡ 32) (before : (p : ℕ) → p < at → get_or keys p 0 ≡ get_or old p 0) (behind : (p : ℕ) → at ≤ p → p + 1 < n → get_or keys p 0 ≡ get_or old (p + 1) 0) where
-  pub taken_sorted : Sorted keys (n - 1)
-  taken_sorted = record { room = room; few = omega (arith, whole.few); ordered = λ p q h. go p q h.0 h.1 (cases_lt p at) (cases_lt q at) }
-    where
-      go : (p q : ℕ) → p < q → q < n - 1 → (p < at) ⊎ (at ≤ p) → (q < at) ⊎ (at ≤ q) → get_or keys q 0 < get_or keys p 0
-      go p q less h (inl l) (inl m) = omega (arith, before p l, before q m, whole.ordered p q (less, omega arith))
-      go p q less h (inl l) (inr m) = omega (arith, before p l, behind q m (omega arith), whole.ordered p (q + 1) (omega arith, omega arith))
-      go p q less h (inr l) (inl m) = absurd (omega arith)
-      go p q less h (inr l) (inr m) = omega (arith, behind p l (omega arith), behind q m (omega arith), whole.ordered (p + 1) (q + 1) (omega arith, omega arith))
-
   pub taken_holds : (x : ℕ) → among keys (n - 1) x ≡ (among old n x && not (eqb key x))
   taken_holds x =
       same_from_decides (among keys (n - 1) x) (among old n x && not (eqb key x))

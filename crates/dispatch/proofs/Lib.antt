@@ -3,7 +3,6 @@ pub mod Tests
 pub mod Refusals
 pub mod Words
 pub mod Picks
-pub mod Spending
 pub mod Keys
 pub mod Places
 pub mod Waiting

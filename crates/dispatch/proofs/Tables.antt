@@ -1,18 +1,15 @@
 -- The rows of a table, with one of them set. Assumes nothing.
-use Rattle.std.proofs.Common.{◌≡◌, ℕ, ◌<◌, ◌≤◌, Bool, true, false, cond, ◌&&◌, ltb, ◌⊎◌, List, length, set, replicate, Some, None, Option, Ok, Err, sym, refl, ap, ◌∙◌, inl, inr, arith, length-set}
-use mathlib.Core.Path.{fun_ext}
+use Rattle.std.proofs.Common.{◌≡◌, ℕ, ◌<◌, ◌≤◌, Bool, true, false, cond, ◌⊎◌, List, length, replicate, Some, None, Option, Ok, Err, sym, refl, ap, ◌∙◌, inl, inr, arith}
 use Rattle.std.proofs.lemmas.List.{get_or-replicate, get_or_past}
-use Rattle.std.proofs.lemmas.Bool.{cases_lt, lt-ltb, eq-eqb, ne_eqb, and_from, and_parts, cond-true, both_ways, true≢false}
+use Rattle.std.proofs.lemmas.Bool.{cases_lt, eq-eqb, ne_eqb, and_parts, both_ways, true≢false}
 use Rattle.std.specs.Option.{option_map, ok_or}
-use Rattle.task.specs.Task.{timely}
 use Rattle.schedule.specs.declared.Refusal.{Refusal}
 use Rattle.schedule.specs.declared.TaskRow.{TaskRow}
 use Rattle.schedule.specs.Calls.{quiet}
 use Rattle.schedule.specs.Order.{unfinished}
-use Rattle.schedule.specs.State.{blank, put}
-use Rattle.schedule.proofs.Rows.{put_set, put_elim}
+use Rattle.schedule.specs.State.{blank}
 use Rattle.schedule.proofs.Searches.{least_is, least_below}
-use Rattle.dispatch.specs.Rows.{slots, carded}
+use Rattle.dispatch.specs.Rows.{slots}
 
 pub slots_blank : (i : ℕ) → slots (replicate 32 blank) i ≡ blank
 slots_blank i = go (cases_lt i 32)
@@ -20,20 +17,6 @@ slots_blank i = go (cases_lt i 32)
     go : (i < 32) ⊎ (32 ≤ i) → slots (replicate 32 blank) i ≡ blank
     go (inl h) = get_or-replicate 32 i blank blank h
     go (inr h) = get_or_past (replicate 32 blank) i blank h
-
--- the rows with one of them set
-module _ (rows new : List TaskRow) (id : ℕ) (r : TaskRow) (full : length rows ≡ 32) (below : id < 32) (is : new ≡ set rows id r) where
-  slot_set : (i : ℕ) → slots new i ≡ put (slots rows) id r i
-  slot_set i = ap (λ l. slots l i) is ∙ put_set rows id r (omega arith) i
-
-  pub slots_set : slots new ≡ put (slots rows) id r
-  slots_set = fun_ext slot_set
-
-  pub full_set : length new ≡ 32
-  full_set = ap length is ∙ length-set rows id r ∙ full
-
-  pub carded_set : carded r ≡ true → ((i : ℕ) → carded (slots rows i) ≡ true) → (i : ℕ) → carded (slots new i) ≡ true
-  carded_set here there i = ap carded (slot_set i) ∙ put_elim (slots rows) id r (λ _ x. carded x ≡ true) here (λ k _. there k) i
 
 -- a search that finds an unfinished job, and one that finds none
 module _ (slot : ℕ → TaskRow) where
@@ -53,11 +36,6 @@ held_below rows id full held = go (cases_lt id 32)
 
 pub unfinished_below : (rows : List TaskRow) → length rows ≡ 32 → (id : ℕ) → unfinished (slots rows id) ≡ true → id < 32
 unfinished_below rows full id u = held_below rows id full (and_parts _ _ u).0
-
--- the row of a held task makes a card
-module _ (rows : List TaskRow) (id : ℕ) (full : length rows ≡ 32) (times : carded (slots rows id) ≡ true) (held : (slots rows id).held ≡ true) where
-  times_timely : timely (slots rows id).run (slots rows id).period (slots rows id).deadline ≡ true
-  times_timely = sym (cond-true (slots rows id).held _ true held) ∙ times
 
 -- what an option that hangs on a test tells of it
 pub some_by : {A : Type 0} (b : Bool) (x y : A) → Some x ≡ cond b (Some y) None → (b ≡ true) × (x ≡ y)

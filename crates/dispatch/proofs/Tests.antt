@@ -1,5 +1,5 @@
 -- The steps of the test. Assumes nothing.
-use Rattle.std.proofs.Common.{◌≡◌, ℕ, zero, suc, ◌+◌, ◌*◌, ◌/◌, ◌%◌, ◌<◌, ◌≤◌, min, Bool, true, false, cond, not, eqb, ltb, leb, ◌⊎◌, is_some, Some, None, Option, unwrap_or, sym, refl, ap, ◌∙◌, inl, inr, mul-le-mul_left, div-mul-le_self, arith}
+use Rattle.std.proofs.Common.{◌≡◌, ℕ, zero, suc, ◌+◌, ◌*◌, ◌/◌, ◌%◌, ◌<◌, ◌≤◌, min, Bool, true, false, cond, ltb, leb, ◌⊎◌, Some, None, Option, unwrap_or, sym, refl, ap, ◌∙◌, inl, inr, mul-le-mul_left, div-mul-le_self, arith}
 use Rattle.std.proofs.lemmas.Bool.{cases_eq, lt-ltb, lt-leb, le-leb, ltb-false, ne_eqb, cond-true, cond-false}
 use Rattle.std.specs.Option.{MatchOption}
 use Rattle.supply.specs.Windows.{within_limits}

@@ -1,5 +1,6 @@
 -- A tick, as it goes over the keys of the jobs that run, the soonest last. Assumes nothing.
 use Rattle.std.proofs.Common.{◌≡◌, ℕ, ◌+◌, ◌-◌, ◌*◌, ◌%◌, ◌^◌, ◌<◌, ◌≤◌, Bool, true, false, cond, not, ◌&&◌, ◌||◌, eqb, ltb, leb, ◌⊎◌, List, length, get_or, set, sym, refl, ap, ◌∙◌, subst, inl, inr, arith, length-set}
+use native.Mathlib.Nat.{sub-zero}
 use lib.Bits.{bit_or}
 use Rattle.std.proofs.lemmas.Nat.{one_shl}
 use Rattle.std.proofs.lemmas.Bool.{cases_eq, cases_Bool, and_from, and_right, and_parts, lt-ltb, le-ltb, le-leb, lt-leb, ltb-true, or_left, not_from_false}
@@ -7,7 +8,7 @@ use Rattle.std.proofs.lemmas.Bool.Decides.{nat_tests}
 use Rattle.schedule.specs.declared.TaskRow.{TaskRow}
 use Rattle.schedule.specs.Counting.{sum}
 use Rattle.schedule.specs.Order.{unfinished, rank, runs, word, names, spent}
-use Rattle.schedule.specs.State.{put}
+use Rattle.schedule.specs.State.{put, with_job}
 use Rattle.schedule.proofs.Rows.{put_set, put_same, put_other}
 use Rattle.schedule.proofs.Sums.{sum_same, sum_grown, sum_zero}
 use Rattle.schedule.proofs.Words.{names_at}
@@ -15,7 +16,6 @@ use Rattle.dispatch.specs.Keys.{key_of, id_of, keyed, waits, among, Kept}
 use Rattle.dispatch.specs.Rows.{slots}
 use Rattle.dispatch.proofs.Keys.{among_place, Filtered}
 use Rattle.dispatch.proofs.Places.{InOrder, number_key, number_below, at_place, place_of, rank_place}
-use Rattle.dispatch.proofs.Spending.{spent_none}
 use Rattle.dispatch.proofs.Words.{bit_set}
 
 -- i runs on one of g processors, and m others or more are ranked before it
@@ -31,6 +31,9 @@ pub record Ran (slot : ℕ → TaskRow) (g m : ℕ) (rows : List TaskRow) (w : �
   pub full : length rows ≡ 32
   pub each : (i : ℕ) → slots rows i ≡ spent (ran slot g m i) (slot i)
   pub word : w ≡ sum 32 (λ i. cond (ran slot g m i) (2 ^ i) 0)
+
+spent_none : (r : TaskRow) → spent false r ≡ r
+spent_none r = ap (with_job r r.latest) (sub-zero r.lacking)
 
 first_test : (r p n g first : ℕ) → first ≡ n - g → r + p + 1 ≡ n → ltb r g && leb (n - first) r ≡ false
 first_test r p n g first is e = grind (arith, nat_tests)

@@ -15,7 +15,3 @@ apart w k free =
 -- the bit of k set in a word that does not name it
 pub bit_set : (w k : ℕ) → names w k ≡ 0 → bit_or w (2 ^ k) ≡ w + 2 ^ k
 bit_set w k free = or_disjoint w (2 ^ k) (apart w k free)
-
--- a test of bit k
-pub bit_test : (w k : ℕ) → bit_and (w / 2 ^ k) 1 ≡ names w k
-bit_test w k = and_mask (w / 2 ^ k) 1

@@ -1,5 +1,10 @@
-use Rattle.dispatch.proofs.Spending.{Paid}
+use Rattle.std.proofs.Common.{◌≡◌, ℕ, ◌&&◌, eqb, ltb, length, get_or}
+use Rattle.schedule.specs.State.{blank}
+use Rattle.schedule.specs.Order.{names, spent}
 use Rattle.dispatch.proofs.select.spend.Given as goal
 
+-- of the rows below i, each that the word names lacks one tick less; the others are as they were
 abbrev pub invariant-loop-i : goal.invariant-loop-i
-invariant-loop-i l = Paid l.initial.rows l.ran l.i l.rows
+invariant-loop-i l =
+    (length l.rows ≡ 32)
+    × ((k : ℕ) → get_or l.rows k blank ≡ spent (ltb k l.i && eqb (names l.ran k) 1) (get_or l.initial.rows k blank))

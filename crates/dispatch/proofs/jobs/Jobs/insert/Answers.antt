@@ -1,5 +1,5 @@
-use Rattle.std.proofs.Common.{◌-◌, ◌<◌, ◌≤◌, get_or, refl, arith}
-use Rattle.dispatch.proofs.Keys.{opened_more, closed_sorted, closed_holds}
+use Rattle.std.proofs.Common.{◌-◌, ◌<◌, ◌≤◌, get_or, arith}
+use Rattle.dispatch.proofs.Keys.{closed_sorted, closed_holds}
 use Rattle.dispatch.proofs.jobs.Jobs.insert.Goals as goal
 use Rattle.dispatch.proofs.jobs.Jobs.insert.Goals.{then-loop-at-test+else-self-at, else-loop-at-test}
 

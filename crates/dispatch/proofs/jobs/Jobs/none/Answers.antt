@@ -1,4 +1,3 @@
-use Rattle.std.proofs.Common.{refl, arith}
 use Rattle.dispatch.proofs.Keys.{among_none}
 use Rattle.dispatch.proofs.jobs.Jobs.none.Goals as goal
 

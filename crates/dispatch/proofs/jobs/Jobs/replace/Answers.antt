@@ -1,4 +1,4 @@
-use Rattle.std.proofs.Common.{refl, arith}
+use Rattle.std.proofs.Common.{arith}
 use Rattle.dispatch.specs.Rows.{slots}
 use Rattle.dispatch.proofs.Waiting.{left_holds, kept_set}
 use Rattle.dispatch.proofs.jobs.Jobs.replace.Goals as goal

@@ -1,10 +1,10 @@
 use Rattle.std.proofs.Common.{◌≡◌, ◌+◌, ◌-◌, get_or, sym, refl, ap, ◌∙◌, subst, arith}
 use mir.Val.{bool_byte}
 use Rattle.dispatch.specs.Rows.{slots}
-use Rattle.dispatch.proofs.Keys.{Filtered, filtered_none, filtered_more, sorted_set}
+use Rattle.dispatch.proofs.Keys.{Filtered, filtered_none, filtered_more}
 use Rattle.dispatch.proofs.Places.{InOrder}
 use Rattle.dispatch.proofs.Tables.{unfinished_below}
-use Rattle.dispatch.proofs.Ticks.{Ran, stays, ran_first, stays_first, lacks_here, stays_here, ran_more, rows_behind, word_behind, kept_behind}
+use Rattle.dispatch.proofs.Ticks.{Ran, stays, ran_first, stays_first, lacks_here, stays_here, ran_more, word_behind, kept_behind}
 use Rattle.dispatch.proofs.jobs.Jobs.run.Goals as goal
 
 pub loop-at-init : goal.loop-at-init
