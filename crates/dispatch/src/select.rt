@@ -36,6 +36,7 @@ fn due_times(rows: &[TaskRow; ROWS]) -> [u64; ROWS]
 fn soonest(times: &[u64; ROWS]) -> usize
     ensures { Soonest times.now result }
 {
+    // by hand: no proof closed that `min_by_key` names the first among equals
     let mut best = 0;
     for i in 1..ROWS {
         if times[i] < times[best] {

@@ -11,7 +11,7 @@ ghost use Rattle.dispatch.specs.Rows.{slots, carded, task_at, row_of};
 use crate::jobs::Jobs;
 use crate::task_id::TaskId;
 use schedule::TaskRow;
-use task::{Card, TASKS};
+use task::Card;
 
 // how many rows there are: one for each number that a task can have
 pub(crate) const ROWS: usize = 32;
@@ -51,11 +51,7 @@ impl TaskTable {
     pub(crate) fn row(&self, id: u32) -> TaskRow
         ensures { result ≡ slots self.now.rows id }
     {
-        if id < TASKS {
-            self.rows[id as usize]
-        } else {
-            BLANK
-        }
+        self.rows.get(id as usize).copied().unwrap_or(BLANK)
     }
 
     // Whether a task of this number is held.

@@ -10,7 +10,7 @@ ghost use Rattle.schedule.specs.Shift.{Guarantee};
 
 // One row of the dispatcher's table: a task's card, the clock of its latest release since its admission, and the ticks that
 // its job still lacks.
-// `held` is a flag and no `Option` round the row: the definitions promise that a free row is blank in every field.
+// `held` is a flag and no `Option` round the row: the definitions speak of rows with it, and an `Option` would need a second record.
 #[derive(Clone, Copy, PartialEq, Eq, Debug)]
 pub struct TaskRow {
     pub held: bool,
