@@ -4,23 +4,19 @@ ghost use Rattle.listing.specs.Refusals.{number_of, text_of};
 use std::error::Error;
 use std::fmt;
 
-// Why nothing is listed.
+// Why nothing is listed, with the number by which that is reported.
 #[derive(Clone, Copy, PartialEq, Eq, Debug)]
 pub enum ListingRefusal {
     // the buffer has less than 512 bytes
-    BufferTooSmall,
+    BufferTooSmall = 30,
 }
-
-const BUFFER_TOO_SMALL: u32 = 30;
 
 impl ListingRefusal {
     // The number by which the refusal is reported.
     pub fn number(self) -> u32
         ensures { result ≡ number_of self }
     {
-        match self {
-            ListingRefusal::BufferTooSmall => BUFFER_TOO_SMALL,
-        }
+        self as u32
     }
 }
 
