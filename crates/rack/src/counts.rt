@@ -29,7 +29,7 @@ fn add_row(counts: &mut [u8; MAX_CYCLE], row: &SlotRow, cycle: usize)
 {
     let period = row.period();
     let mut start = 0;
-    // by hand: of what is written through `chunks_mut` a proof knows nothing behind the loop
+    // by hand: a remainder at each tick takes 1.5 times as long, and of what `chunks_mut` lends a proof knows nothing behind the loop
     while start + period <= cycle {
         add_round(counts, row, start, period);
         start += period;

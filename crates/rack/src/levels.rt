@@ -15,7 +15,7 @@ use supply::{MAX_LENGTH, MAX_LEVEL};
 pub(crate) struct Levels {
     // how many processors each tick of the cycle gives
     given: [u8; MAX_CYCLE],
-    // how many ticks the cycle has
+    // how many ticks the cycle has: a number of its own beside them, since the sums and the kept windows go as far as it too
     pub(crate) cycle: usize,
     // the running sums of the levels from 1 to 8
     sums: [LevelSums; LEVELS],

@@ -27,6 +27,7 @@ impl LevelSums {
         ensures { Summed level.number (repeated given.now cycle) cycle self.new.sums }
     {
         self.sums[0] = 0;
+        // by index, since each sum is made from the one before it
         for k in 0..cycle {
             self.sums[k + 1] = self.sums[k] + u16::from(given[k]).min(level.number);
         }
