@@ -1,7 +1,6 @@
 pub mod Lines
 pub mod Cycles
 pub mod Distinct
-pub mod Taken
 pub mod Onward
 pub mod Ended
 pub mod Lawfulness
