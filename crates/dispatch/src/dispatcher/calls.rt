@@ -22,10 +22,7 @@ const MAX_CLOCK: u32 = 1_000_000_000;
 fn ready(row: &TaskRow, at: u32) -> bool
     ensures { result ≡ ready at row.now.period row.now.latest }
 {
-    match row.latest {
-        Some(latest) => u64::from(latest) + u64::from(row.period) <= u64::from(at),
-        None => true,
-    }
+    row.latest.is_none_or(|latest| u64::from(latest) + u64::from(row.period) <= u64::from(at))
 }
 
 impl<S: Supply> Dispatcher<S> {
