@@ -95,7 +95,7 @@ impl TaskTable {
             latest: None,
             lacking: 0,
         };
-        tasks.set(TaskId::of(card), row);
+        tasks.set(TaskId::from(card), row);
         tasks
     }
 

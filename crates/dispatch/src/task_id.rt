@@ -22,11 +22,13 @@ impl TaskId {
             None
         }
     }
+}
 
-    // The task of a card.
-    pub(crate) fn of(card: &Card) -> TaskId
-        ensures { result.number ≡ (task_of card.now).id }
-    {
+// The task of a card.
+impl From<&Card> for TaskId {
+    ghost from_gives = { λ card task. task.number ≡ (task_of card.now).id };
+
+    fn from(card: &Card) -> TaskId {
         TaskId { number: card.id() }
     }
 }
