@@ -36,14 +36,7 @@ fn due_times(rows: &[TaskRow; ROWS]) -> [u64; ROWS]
 fn soonest(times: &[u64; ROWS]) -> usize
     ensures { Soonest times.now result }
 {
-    // by hand: no proof closed that `min_by_key` names the first among equals
-    let mut best = 0;
-    for i in 1..ROWS {
-        if times[i] < times[best] {
-            best = i;
-        }
-    }
-    best
+    (0..ROWS).min_by_key(|i| times[*i]).unwrap_or(0)
 }
 
 // The word of the tasks that run on `given` processors: bit i is set where task i runs.
