@@ -21,7 +21,7 @@ use task::Card;
 // What a buffer has to have at least; no listing is longer than 299 bytes.
 const ROOM: usize = 512;
 
-// Admits a task and writes its line.
+// Admits a task and writes its line. A refusal that names no task has 0 in its place, as the definition of a line has it.
 fn list_task<S: Supply>(dispatcher: &mut Dispatcher<S>, card: &Card, page: &mut Page)
     ensures text { written page.new ≡ cut (written page.old ++ task_line (task_of card.now).id (answer (state_of S.Supply.row S.Supply.table dispatcher.old) (admission (task_of card.now)))) }
     ensures state { state_of S.Supply.row S.Supply.table dispatcher.new ≡ after (state_of S.Supply.row S.Supply.table dispatcher.old) (admission (task_of card.now)) }

@@ -1,4 +1,5 @@
-// The static library for a controller's C program. The header is include/gap_listing.h.
+// The static library for a controller's C program. The header is include/gap_listing.h. The call stands here and in `listing`, since
+// a crate is a library for other crates or one for C.
 #![tactic(auto)]
 
 ghost use Rattle.std.specs.Prelude.{◌≡◌, length, if◌then◌else◌, nat_le};

@@ -27,7 +27,7 @@ fn row_line(mut fields: Rest<'_>) -> Result<Line<'_>, Fault>
     ))
 }
 
-// The fields behind `T,`.
+// The fields behind `T,`: beside those of `S,`, since a loop over both would need a table of what each line has.
 fn task_line(mut fields: Rest<'_>) -> Result<Line<'_>, Fault>
     ensures { content_said result ≡ content fields.entry.line ((84 ∷ []) ∷ parts 44 fields.entry.bytes.now) }
 {

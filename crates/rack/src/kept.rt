@@ -20,6 +20,7 @@ pub(crate) struct Kept {
     ghost placed: { (s p : ℕ) → place_of place s ≡ Some p → p < length (listed least) },
 }
 
+// A length below 512 is asked for in three functions: a type for it would be made and taken apart in each.
 impl Kept {
     // Nothing is kept yet.
     pub(crate) fn none() -> Kept

@@ -28,7 +28,8 @@ pub(crate) struct Levels {
 }
 
 impl Levels {
-    // The table of the first `cycle` of the given numbers, over and over.
+    // The table of the first `cycle` of the given numbers, over and over. The cycle is a plan's, and no type of its own: a plan answers
+    // a number.
     pub(crate) fn new(given: &[u8; MAX_CYCLE], cycle: usize) -> Levels
         requires some { 1 ≤ cycle }
         requires few { cycle ≤ 512 }

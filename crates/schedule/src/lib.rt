@@ -88,6 +88,7 @@ impl Refusal {
     pub fn number(&self) -> u32
         ensures { result ≡ number_of self.now }
     {
+        // by a `match`: a variant that holds a task has no discriminant to cast
         match *self {
             Refusal::NumberTooLarge => 21,
             Refusal::BadCard => 22,

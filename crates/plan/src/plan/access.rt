@@ -13,7 +13,7 @@ use crate::table::SlotTable;
 use task::Card;
 
 impl Plan {
-    // The plan whose one row, of period 1, never gives a processor.
+    // The plan whose one row, of period 1, never gives a processor: named for that, and no `Default`.
     pub fn idle() -> Plan
         ensures { contents result ≡ record { rows = (false ∷ []) ∷ []; tasks = [] } }
     {
@@ -23,7 +23,7 @@ impl Plan {
         }
     }
 
-    // The plan that the lines make, where there is a row among them.
+    // The plan that the lines make, where there is a row among them. No `TryFrom`: which fault it is, the reader says.
     pub(crate) fn from_draft(draft: &Draft) -> Option<Plan>
         ensures { option_map contents result ≡ (if nat_lt 0 (length (drafted draft.now).rows) then Some (drafted draft.now) else None) }
     {

@@ -21,7 +21,7 @@ impl Card {
         }
     }
 
-    // The card of number 0 that runs one tick in every tick.
+    // The card of number 0 that runs one tick in every tick: named for that, and no `Default`.
     pub fn smallest() -> Card
         ensures { task_of result ≡ record { id = 0; run = 1; period = 1; deadline = 1 } }
     {
