@@ -5,7 +5,7 @@ use denote.Param.Members.{Mut, Called}
 use Rattle.std.specs.Array.{IsFromFnResultFrom}
 use Rattle.std.specs.List.{range_with_len, sum as list_sum}
 use Rattle.std.proofs.lemmas.List.FromFn.{sum_by-map-range_with_len_more}
-use Rattle.schedule.specs.declared.TaskRow.{TaskRow}
+use Rattle.schedule.specs.Row.{TaskRow}
 use Rattle.schedule.specs.Counting.{sum}
 use Rattle.schedule.specs.State.{put, with_job}
 use Rattle.schedule.specs.Test.{charge, others, load}

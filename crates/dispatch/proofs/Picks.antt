@@ -13,7 +13,7 @@ use Rattle.std.specs.Ordering.{nat_cmp, min_by_ordering}
 use Rattle.std.proofs.lemmas.Nat.{one_shl}
 use Rattle.std.proofs.lemmas.Bool.{true_from_ne_false, cases_eq, cases_order, cases_lt, lt-ltb, le-ltb, eq-eqb, ne_eqb}
 use Rattle.std.proofs.lemmas.Bool.Decides.{nat_tests}
-use Rattle.schedule.specs.declared.TaskRow.{TaskRow}
+use Rattle.schedule.specs.Row.{TaskRow}
 use Rattle.schedule.specs.Order.{unfinished, due, ahead, runs, word, names}
 use Rattle.schedule.proofs.Jobs.{names_runs}
 use Rattle.schedule.proofs.Next.{NextJob, runs_none, runs_next, runs_others, word_next}

@@ -3,7 +3,7 @@ use Rattle.std.proofs.Common.{◌≡◌, ℕ, zero, suc, ◌+◌, ◌*◌, ◌/�
 use Rattle.std.proofs.lemmas.Bool.{cases_eq, lt-ltb, lt-leb, le-leb, ltb-false, ne_eqb, cond-true, cond-false}
 use Rattle.std.specs.Option.{MatchOption}
 use Rattle.supply.specs.Windows.{within_limits}
-use Rattle.schedule.specs.declared.TaskRow.{TaskRow}
+use Rattle.schedule.specs.Row.{TaskRow}
 use Rattle.schedule.specs.Test.{charge, load, serves, level_from, witness, unserved, first_unserved}
 use Rattle.schedule.proofs.Searches.{least_is, least_le}
 use Rattle.task.specs.Task.{Task}

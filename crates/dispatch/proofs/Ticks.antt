@@ -1,21 +1,23 @@
 -- A tick, as it goes over the keys of the jobs that run, the soonest last. Assumes nothing.
-use Rattle.std.proofs.Common.{◌≡◌, ℕ, ◌+◌, ◌-◌, ◌*◌, ◌%◌, ◌^◌, ◌<◌, ◌≤◌, Bool, true, false, cond, not, ◌&&◌, ◌||◌, eqb, ltb, leb, ◌⊎◌, List, length, get_or, set, sym, refl, ap, ◌∙◌, subst, inl, inr, arith, length-set}
+use Rattle.std.proofs.Common.{◌≡◌, ℕ, ◌+◌, ◌-◌, ◌*◌, ◌%◌, ◌^◌, ◌<◌, ◌≤◌, Bool, true, false, cond, not, ◌&&◌, ◌||◌, eqb, ltb, leb, ◌⊎◌, List, length, Option, get_or, set, sym, refl, ap, ◌∙◌, subst, inl, inr, arith, length-set}
 use native.Mathlib.Nat.{sub-zero}
 use lib.Bits.{bit_or}
 use Rattle.std.proofs.lemmas.Nat.{one_shl}
 use Rattle.std.proofs.lemmas.Bool.{cases_eq, cases_Bool, and_from, and_right, and_parts, lt-ltb, le-ltb, le-leb, lt-leb, ltb-true, or_left, not_from_false}
 use Rattle.std.proofs.lemmas.Bool.Decides.{nat_tests}
-use Rattle.schedule.specs.declared.TaskRow.{TaskRow}
+use Rattle.schedule.specs.Row.{TaskRow}
 use Rattle.schedule.specs.Counting.{sum}
 use Rattle.schedule.specs.Order.{unfinished, rank, runs, word, names, spent}
 use Rattle.schedule.specs.State.{put, with_job}
-use Rattle.schedule.proofs.Rows.{put_set, put_same, put_other}
+use Rattle.schedule.proofs.Rows.{put_same, put_other}
 use Rattle.schedule.proofs.Sums.{sum_same, sum_grown, sum_zero}
 use Rattle.schedule.proofs.Words.{names_at}
 use Rattle.dispatch.specs.Keys.{key_of, id_of, keyed, waits, among, Kept}
-use Rattle.dispatch.specs.Rows.{slots}
+use Rattle.dispatch.specs.Rows.{row_said, slots}
+use Rattle.dispatch.specs.declared.held_task.HeldTask.{HeldTask}
 use Rattle.dispatch.proofs.Keys.{among_place, Filtered}
 use Rattle.dispatch.proofs.Places.{InOrder, number_key, number_below, at_place, place_of, rank_place}
+use Rattle.dispatch.proofs.Tables.{slots_set}
 use Rattle.dispatch.proofs.Words.{bit_set}
 
 -- i runs on one of g processors, and m others or more are ranked before it
@@ -27,7 +29,7 @@ abbrev pub stays : (ℕ → TaskRow) → ℕ → ℕ → Bool
 stays slot g x = not (runs slot g (id_of x)) || ltb 1 (slot (id_of x)).lacking
 
 -- the rows and the word in a tick on g processors, where all that run have had theirs but the m that are ranked first
-pub record Ran (slot : ℕ → TaskRow) (g m : ℕ) (rows : List TaskRow) (w : ℕ) : Type 0 where
+pub record Ran (slot : ℕ → TaskRow) (g m : ℕ) (rows : List (Option HeldTask)) (w : ℕ) : Type 0 where
   pub full : length rows ≡ 32
   pub each : (i : ℕ) → slots rows i ≡ spent (ran slot g m i) (slot i)
   pub word : w ≡ sum 32 (λ i. cond (ran slot g m i) (2 ^ i) 0)
@@ -60,7 +62,7 @@ module _ (slot : ℕ → TaskRow) (keys : List ℕ) (n : ℕ) (kept : InOrder sl
       go (inl u) = rw u (first_test (rank slot i) (placed i u).0 n g first from (placed i u).3)
       go (inr f) = rw f refl
 
-  pub ran_first : (rows : List TaskRow) → length rows ≡ 32 → ((i : ℕ) → slots rows i ≡ slot i) → Ran slot g (n - first) rows 0
+  pub ran_first : (rows : List (Option HeldTask)) → length rows ≡ 32 → ((i : ℕ) → slots rows i ≡ slot i) → Ran slot g (n - first) rows 0
   ran_first rows full same =
       record {
         full = full;
@@ -104,7 +106,7 @@ module _ (slot : ℕ → TaskRow) (keys : List ℕ) (n : ℕ) (kept : InOrder sl
             let apart : w.0 ≡ p → ⊥ = λ e. ne (sym (number_key i (slot i) (within i u)) ∙ ap id_of (sym w.2 ∙ ap (λ q. get_or keys q 0) e ∙ sym is)) in
             next_test (runs slot g i) (rank slot i) (n - (p + 1)) (λ e. apart (omega (arith, w.3))) ∙ ap (λ m. runs slot g i && leb m (rank slot i)) (omega arith)
 
-    module _ (rows : List TaskRow) (w : ℕ) (so : Ran slot g (n - p) rows w) where
+    module _ (rows : List (Option HeldTask)) (w : ℕ) (so : Ran slot g (n - p) rows w) where
       -- the row of the next key is still as it was
       pub row_here : slots rows k ≡ slot k
       row_here = so.each k ∙ ap (λ b. spent b (slot k)) not_yet ∙ spent_none (slot k)
@@ -116,15 +118,15 @@ module _ (slot : ℕ → TaskRow) (keys : List ℕ) (n : ℕ) (kept : InOrder sl
       pub stays_here : stays slot g key ≡ ltb 1 (slots rows k).lacking
       stays_here = ap (λ b. not b || ltb 1 (slot k).lacking) runs_here ∙ ap (λ r. ltb 1 r.lacking) (sym row_here)
 
-      pub ran_more : (r : TaskRow) → r ≡ spent true (slots rows k) → Ran slot g (n - (p + 1)) (set rows k r) (bit_or w ((1 * 2 ^ k) % 2 ^ 32))
-      ran_more r spends = record { full = length-set rows k r ∙ so.full; each = λ i. put_set rows k r inside i ∙ each i (cases_eq i k); word = bit ∙ sym grown }
+      pub ran_more : (o : Option HeldTask) → row_said o ≡ spent true (slots rows k) → Ran slot g (n - (p + 1)) (set rows k o) (bit_or w ((1 * 2 ^ k) % 2 ^ 32))
+      ran_more o spends = record { full = length-set rows k o ∙ so.full; each = λ i. slots_set rows k o inside i ∙ each i (cases_eq i k); word = bit ∙ sym grown }
         where
           inside : k < length rows
           inside = omega (arith, so.full, number_below key)
 
-          each : (i : ℕ) → (i ≡ k) ⊎ (i ≡ k → ⊥) → put (slots rows) k r i ≡ spent (ran slot g (n - (p + 1)) i) (slot i)
-          each i (inl e) = put_same (slots rows) k r i e ∙ spends ∙ ap (spent true) row_here ∙ ap (λ b. spent b (slot k)) (sym ran_now) ∙ ap (λ j. spent (ran slot g (n - (p + 1)) j) (slot j)) (sym e)
-          each i (inr ne) = put_other (slots rows) k r i ne ∙ so.each i ∙ ap (λ b. spent b (slot i)) (sym (ran_others i ne))
+          each : (i : ℕ) → (i ≡ k) ⊎ (i ≡ k → ⊥) → put (slots rows) k (row_said o) i ≡ spent (ran slot g (n - (p + 1)) i) (slot i)
+          each i (inl e) = put_same (slots rows) k (row_said o) i e ∙ spends ∙ ap (spent true) row_here ∙ ap (λ b. spent b (slot k)) (sym ran_now) ∙ ap (λ j. spent (ran slot g (n - (p + 1)) j) (slot j)) (sym e)
+          each i (inr ne) = put_other (slots rows) k (row_said o) i ne ∙ so.each i ∙ ap (λ b. spent b (slot i)) (sym (ran_others i ne))
 
           grown : sum 32 (λ i. cond (ran slot g (n - (p + 1)) i) (2 ^ i) 0) ≡ w + 2 ^ k
           grown =
@@ -151,7 +153,7 @@ still false l own b = refl
 still true l own true = grind (arith, nat_tests)
 still true l own false = grind (arith, nat_tests)
 
-module _ (slot : ℕ → TaskRow) (g : ℕ) (rows : List TaskRow) (w : ℕ) (so : Ran slot g 0 rows w) where
+module _ (slot : ℕ → TaskRow) (g : ℕ) (rows : List (Option HeldTask)) (w : ℕ) (so : Ran slot g 0 rows w) where
   pub rows_behind : (i : ℕ) → slots rows i ≡ spent (runs slot g i) (slot i)
   rows_behind i = so.each i ∙ ap (λ b. spent b (slot i)) (ran_whole slot g i)
 

@@ -1,15 +1,16 @@
 -- The keys of the unfinished jobs, as a row is replaced by another. Assumes nothing.
-use Rattle.std.proofs.Common.{◌≡◌, ℕ, ◌<◌, ◌≤◌, Bool, true, false, not, ◌&&◌, ◌||◌, eqb, ◌⊎◌, List, length, get_or, set, sym, refl, ap, ◌∙◌, inl, inr, arith}
+use Rattle.std.proofs.Common.{◌≡◌, ℕ, ◌<◌, ◌≤◌, Bool, true, false, not, ◌&&◌, ◌||◌, eqb, ◌⊎◌, List, length, Option, get_or, set, sym, refl, ap, ◌∙◌, inl, inr, arith}
 use Rattle.std.proofs.lemmas.Bool.{false_from_ne_true, cases_eq, cases_lt, cases_Bool, and_parts, and_left, eqb-true, eq-eqb, ne_eqb}
-use Rattle.schedule.specs.declared.TaskRow.{TaskRow}
+use Rattle.schedule.specs.Row.{TaskRow}
 use Rattle.schedule.specs.Calls.{quiet}
 use Rattle.schedule.specs.Order.{unfinished}
 use Rattle.schedule.specs.State.{blank, put}
-use Rattle.schedule.proofs.Rows.{put_same, put_other, put_set}
+use Rattle.schedule.proofs.Rows.{put_same, put_other}
 use Rattle.dispatch.specs.Keys.{key_of, id_of, keyed, waits, among, Sorted, Kept}
-use Rattle.dispatch.specs.Rows.{slots}
+use Rattle.dispatch.specs.Rows.{row_said, slots}
+use Rattle.dispatch.specs.declared.held_task.HeldTask.{HeldTask}
 use Rattle.dispatch.proofs.Places.{InOrder, number_key, number_below, at_place, place_of, room_left}
-use Rattle.dispatch.proofs.Tables.{not_quiet, is_quiet}
+use Rattle.dispatch.proofs.Tables.{slots_set, not_quiet, is_quiet}
 
 and_not : (a : Bool) → a && not a ≡ false
 and_not true = refl
@@ -96,5 +97,5 @@ module _ (slot : ℕ → TaskRow) (id : ℕ) (below : id < 32) where
     left_holds r finished = joined_holds r less fewer (λ x. sym (ap (λ b. (b && eqb (key_of id r) x) || among less fewer x) finished))
 
 -- the jobs are kept with a row set
-pub kept_set : (rows : List TaskRow) (id : ℕ) (r : TaskRow) (keys : List ℕ) (n : ℕ) → id < length rows → Kept (put (slots rows) id r) keys n → Kept (slots (set rows id r)) keys n
-kept_set rows id r keys n below holds x = holds x ∙ waits_same _ _ x (sym (put_set rows id r below (id_of x)))
+pub kept_set : (rows : List (Option HeldTask)) (id : ℕ) (o : Option HeldTask) (keys : List ℕ) (n : ℕ) → id < length rows → Kept (put (slots rows) id (row_said o)) keys n → Kept (slots (set rows id o)) keys n
+kept_set rows id o keys n below holds x = holds x ∙ waits_same _ _ x (sym (slots_set rows id o below (id_of x)))

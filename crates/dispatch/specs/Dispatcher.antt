@@ -1,6 +1,6 @@
 -- What a dispatcher stands for, and what its calls answer. Assumes nothing.
 use Rattle.std.specs.Prelude.{ℕ, None, Option, Ok, Err, Result, nat_lt}
-use Rattle.schedule.specs.declared.TaskRow.{TaskRow}
+use Rattle.schedule.specs.Row.{TaskRow}
 use Rattle.schedule.specs.declared.Refusal.{Refusal}
 use Rattle.schedule.specs.declared.Refusal.TheVariants.{NumberTooLarge, NotHeld}
 use Rattle.schedule.specs.declared.Answer.{Answer}

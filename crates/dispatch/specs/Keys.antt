@@ -1,6 +1,6 @@
 -- The keys by which unfinished jobs are kept in the order in which they run. Assumes nothing.
 use Rattle.std.specs.Prelude.{◌≡◌, ℕ, zero, suc, ◌+◌, ◌*◌, ◌%◌, ◌<◌, ◌≤◌, Bool, false, ◌&&◌, ◌||◌, List, length, ◌==◌, slice_index}
-use Rattle.schedule.specs.declared.TaskRow.{TaskRow}
+use Rattle.schedule.specs.Row.{TaskRow}
 use Rattle.schedule.specs.Order.{unfinished, due}
 
 -- the key of the job in row k: by the clock at which it has to be done, and among equals by number

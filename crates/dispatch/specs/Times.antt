@@ -1,6 +1,6 @@
 -- The times by which jobs have to be done, as they are compared to choose those that run. Assumes nothing.
 use Rattle.std.specs.Prelude.{ℕ, ◌<◌, ◌≤◌, cond, List, slice_index}
-use Rattle.schedule.specs.declared.TaskRow.{TaskRow}
+use Rattle.schedule.specs.Row.{TaskRow}
 use Rattle.schedule.specs.Order.{unfinished, due}
 
 -- later than every time by which a job has to be done

@@ -1,13 +1,14 @@
 // The unfinished jobs of a table, in the order in which they run.
 ghost use Rattle.std.specs.Prelude.{◌≡◌, ℕ, ◌+◌, ◌*◌, ◌<◌, true, false, not, ◌&&◌, ◌||◌, ◌≤◌, length, Some, ◌==◌, nat_lt, slice_index, slice_set};
+ghost use Rattle.schedule.specs.State.{put};
 ghost use Rattle.schedule.specs.Calls.{released};
 ghost use Rattle.schedule.specs.Order.{unfinished, runs, word, spent};
 ghost use Rattle.dispatch.specs.Keys.{key_of, keyed, among, Sorted, Kept};
-ghost use Rattle.dispatch.specs.Rows.{slots};
+ghost use Rattle.dispatch.specs.Rows.{row_said, slots};
 
+use crate::held_task::HeldTask;
 use crate::table::ROWS;
 use crate::task_id::TaskId;
-use schedule::TaskRow;
 
 // how many numbers a task can have: keys of equal deadlines differ by less
 const NUMBERS: u64 = 32;
@@ -22,36 +23,11 @@ pub(crate) struct Jobs {
     ghost sorted: { Sorted keys count },
 }
 
-// Whether the row's job lacks ticks.
-fn unfinished(row: &TaskRow) -> bool
-    ensures { result ≡ unfinished row.now }
-{
-    row.held && row.lacking > 0
-}
-
 // The key of a job of a task, by the clock of its release and the task's deadline.
 fn key_of(task: TaskId, at: u32, deadline: u32) -> u64
     ensures { result ≡ (at + deadline) * 32 + task.number }
 {
     (u64::from(at) + u64::from(deadline)) * NUMBERS + u64::from(task.number)
-}
-
-// A job of the task in this row starts at a clock, and is to run for some ticks.
-fn start(row: &mut TaskRow, at: u32, run: u32)
-    ensures { row.new ≡ released at run row.old }
-{
-    row.latest = Some(at);
-    row.lacking = run;
-}
-
-// The row's job gets a tick; answers whether it lacks more.
-fn work(row: &mut TaskRow) -> bool
-    requires { 0 < row.old.lacking }
-    ensures row { row.new ≡ spent true row.old }
-    ensures more { result ≡ nat_lt 1 row.old.lacking }
-{
-    row.lacking -= 1;
-    row.lacking > 0
 }
 
 impl Jobs {
@@ -111,29 +87,36 @@ impl Jobs {
     }
 
     // Takes the job of a row out, if it is unfinished.
-    fn leave(&mut self, task: TaskId, row: &TaskRow)
-        ensures { (x : ℕ) → among self.new.keys self.new.count x ≡ (among self.old.keys self.old.count x && not (keyed task.number row.now x)) }
+    fn leave(&mut self, task: TaskId, row: &Option<HeldTask>)
+        ensures { (x : ℕ) → among self.new.keys self.new.count x ≡ (among self.old.keys self.old.count x && not (keyed task.number (row_said row.now) x)) }
     {
-        if unfinished(row) {
-            self.remove(key_of(task, row.latest.unwrap_or(0), row.deadline));
+        if let Some(held) = row {
+            if held.unfinished() {
+                self.remove(key_of(task, held.latest.unwrap_or(0), held.deadline));
+            }
         }
     }
 
-    // Puts the job of a row in, which was released at this clock, if it is unfinished.
-    fn join(&mut self, task: TaskId, row: &TaskRow, at: u32)
-        requires released { row.now.latest ≡ Some at }
+    // Puts the job of a task in, which was released at this clock, if it is unfinished.
+    fn join(&mut self, task: TaskId, held: &HeldTask, at: u32)
+        requires released { held.now.latest ≡ Some at }
         requires few { self.old.count < 32 }
-        requires new { among self.old.keys self.old.count (key_of task.number row.now) ≡ false }
-        ensures { (x : ℕ) → among self.new.keys self.new.count x ≡ (keyed task.number row.now x || among self.old.keys self.old.count x) }
+        requires new { among self.old.keys self.old.count (key_of task.number (row_said (Some held.now))) ≡ false }
+        ensures { (x : ℕ) → among self.new.keys self.new.count x ≡ (keyed task.number (row_said (Some held.now)) x || among self.old.keys self.old.count x) }
     {
-        if unfinished(row) {
-            self.insert(key_of(task, at, row.deadline));
+        if held.unfinished() {
+            self.insert(key_of(task, at, held.deadline));
         }
     }
 
     // Puts a row without an unfinished job in the place of another.
-    pub(crate) fn replace(&mut self, rows: &mut [TaskRow; ROWS], task: TaskId, row: TaskRow)
-        requires finished { unfinished row ≡ false }
+    pub(crate) fn replace(
+        &mut self,
+        rows: &mut [Option<HeldTask>; ROWS],
+        task: TaskId,
+        row: Option<HeldTask>,
+    )
+        requires finished { unfinished (row_said row) ≡ false }
         requires kept { Kept (slots rows.old) self.old.keys self.old.count }
         ensures rows { rows.new ≡ slice_set rows.old task.number row }
         ensures kept { Kept (slots rows.new) self.new.keys self.new.count }
@@ -143,21 +126,31 @@ impl Jobs {
         rows[id] = row;
     }
 
-    // Starts a job in a row at a clock, in the place of one that is unfinished.
-    pub(crate) fn release(&mut self, rows: &mut [TaskRow; ROWS], task: TaskId, at: u32, run: u32)
+    // Starts a job, at a clock, of a task that is held, in the place of one that is unfinished.
+    pub(crate) fn release(
+        &mut self,
+        rows: &mut [Option<HeldTask>; ROWS],
+        task: TaskId,
+        at: u32,
+        run: u32,
+    )
+        requires held { (slots rows.old task.number).held ≡ true }
         requires kept { Kept (slots rows.old) self.old.keys self.old.count }
-        ensures rows { rows.new ≡ slice_set rows.old task.number (released at run (slots rows.old task.number)) }
+        ensures full { length rows.new ≡ 32 }
+        ensures rows { (i : ℕ) → slots rows.new i ≡ put (slots rows.old) task.number (released at run (slots rows.old task.number)) i }
         ensures kept { Kept (slots rows.new) self.new.keys self.new.count }
     {
         let id = task.number as usize;
         self.leave(task, &rows[id]);
-        start(&mut rows[id], at, run);
-        self.join(task, &rows[id], at);
+        if let Some(held) = &mut rows[id] {
+            held.start(at, run);
+            self.join(task, held, at);
+        }
     }
 
     // Lets a tick pass on the given processors, of which the soonest jobs get one each; answers the word of their tasks: bit
     // i is set where task i runs.
-    pub(crate) fn run(&mut self, rows: &mut [TaskRow; ROWS], given: u32) -> u32
+    pub(crate) fn run(&mut self, rows: &mut [Option<HeldTask>; ROWS], given: u32) -> u32
         requires { Kept (slots rows.old) self.old.keys self.old.count }
         ensures word { result ≡ word (slots rows.old) given }
         ensures full { length rows.new ≡ 32 }
@@ -174,7 +167,9 @@ impl Jobs {
             let id = (key % NUMBERS) as usize;
             word |= 1 << id;
             self.keys[place] = key;
-            place += usize::from(work(&mut rows[id]));
+            if let Some(held) = &mut rows[id] {
+                place += usize::from(held.work());
+            }
         }
         self.count = place;
         word

@@ -4,6 +4,7 @@
 mod charges;
 mod dispatcher;
 mod held;
+mod held_task;
 mod jobs;
 mod select;
 mod shift;

@@ -1,33 +1,34 @@
 // Which jobs run in a tick: as many as there are processors, those that have to be done the soonest. This is the plain way, which
 // looks at all rows again and again; the dispatcher keeps its jobs in order (jobs.rt), and both have the same word proved of them.
 ghost use Rattle.std.specs.Prelude.{◌≡◌, ℕ, ◌<◌, true, length, get_or, ◌==◌, slice_index, slice_index_or};
-ghost use Rattle.schedule.specs.State.{blank};
 ghost use Rattle.schedule.specs.Order.{unfinished, word, names, spent};
+ghost use Rattle.dispatch.specs.Rows.{row_said, slots};
 ghost use Rattle.dispatch.specs.Times.{never, due_time, Soonest};
 
+use crate::held_task::HeldTask;
 use crate::table::ROWS;
-use schedule::TaskRow;
 
 // later than every time by which a job has to be done
 const NEVER: u64 = u64::MAX;
 
 // The time by which the row's job has to be done; NEVER, where it has no unfinished job.
-fn due_time(row: &TaskRow) -> u64
-    ensures value { result ≡ due_time row.now }
-    ensures sooner { unfinished row.now ≡ true → result < never }
+fn due_time(row: &Option<HeldTask>) -> u64
+    ensures value { result ≡ due_time (row_said row.now) }
+    ensures sooner { unfinished (row_said row.now) ≡ true → result < never }
 {
-    if row.held && row.lacking > 0 {
-        u64::from(row.latest.unwrap_or(0)) + u64::from(row.deadline)
-    } else {
-        NEVER
+    match row {
+        Some(held) if held.unfinished() => {
+            u64::from(held.latest.unwrap_or(0)) + u64::from(held.deadline)
+        }
+        _ => NEVER,
     }
 }
 
 // The times of all rows.
-fn due_times(rows: &[TaskRow; ROWS]) -> [u64; ROWS]
+fn due_times(rows: &[Option<HeldTask>; ROWS]) -> [u64; ROWS]
     ensures full { length result ≡ 32 }
-    ensures value { (i : ℕ) → i < 32 → slice_index result i ≡ due_time (slice_index_or rows.now i blank) }
-    ensures sooner { (i : ℕ) → i < 32 → unfinished (slice_index_or rows.now i blank) ≡ true → slice_index result i < never }
+    ensures value { (i : ℕ) → i < 32 → slice_index result i ≡ due_time (slots rows.now i) }
+    ensures sooner { (i : ℕ) → i < 32 → unfinished (slots rows.now i) ≡ true → slice_index result i < never }
 {
     rows.map(|row| due_time(&row))
 }
@@ -40,8 +41,8 @@ fn soonest(times: &[u64; ROWS]) -> usize
 }
 
 // The word of the tasks that run on `given` processors: bit i is set where task i runs.
-pub(crate) fn select(rows: &[TaskRow; ROWS], given: u32) -> u32
-    ensures { result ≡ word (λ i. get_or rows.now i blank) given }
+pub(crate) fn select(rows: &[Option<HeldTask>; ROWS], given: u32) -> u32
+    ensures { result ≡ word (slots rows.now) given }
 {
     let mut times = due_times(rows);
     let mut word = 0;
@@ -57,13 +58,15 @@ pub(crate) fn select(rows: &[TaskRow; ROWS], given: u32) -> u32
 }
 
 // Each task that the word names lacks one tick less.
-pub(crate) fn spend(rows: &mut [TaskRow; ROWS], ran: u32)
+pub(crate) fn spend(rows: &mut [Option<HeldTask>; ROWS], ran: u32)
     ensures full { length rows.new ≡ 32 }
-    ensures rows { (i : ℕ) → slice_index_or rows.new i blank ≡ spent (names ran i == 1) (slice_index_or rows.old i blank) }
+    ensures rows { (i : ℕ) → slots rows.new i ≡ spent (names ran i == 1) (slots rows.old i) }
 {
     for (i, row) in rows.iter_mut().enumerate() {
-        if ran >> i & 1 == 1 {
-            row.lacking = row.lacking.saturating_sub(1);
+        if let Some(held) = row {
+            if ran >> i & 1 == 1 {
+                held.lacking = held.lacking.saturating_sub(1);
+            }
         }
     }
 }
@@ -72,30 +75,20 @@ pub(crate) fn spend(rows: &mut [TaskRow; ROWS], ran: u32)
 mod tests {
     use super::*;
 
-    const FREE: TaskRow = TaskRow {
-        held: false,
-        run: 0,
-        period: 0,
-        deadline: 0,
-        latest: None,
-        lacking: 0,
-    };
-
     // A task that runs 3 ticks, with a job that lacks some of them.
-    fn job(released: u32, deadline: u32, lacking: u32) -> TaskRow {
-        TaskRow {
-            held: true,
+    fn job(released: u32, deadline: u32, lacking: u32) -> Option<HeldTask> {
+        Some(HeldTask {
             run: 3,
             period: 100,
             deadline,
             latest: Some(released),
             lacking,
-        }
+        })
     }
 
     // Jobs 3 and 5 have to be done at 12, job 7 at 11; job 1 lacks nothing.
-    fn jobs() -> [TaskRow; ROWS] {
-        let mut rows = [FREE; ROWS];
+    fn jobs() -> [Option<HeldTask>; ROWS] {
+        let mut rows = [None; ROWS];
         rows[1] = job(0, 5, 0);
         rows[3] = job(2, 10, 2);
         rows[5] = job(0, 12, 1);
@@ -118,7 +111,7 @@ mod tests {
         let mut rows = [job(u32::MAX, u32::MAX, 1); ROWS];
         assert_eq!(rt; select(&rows, 1), 1);
         assert_eq!(rt; select(&rows, 32), u32::MAX);
-        rows[31].deadline = 1;
+        rows[31] = job(u32::MAX, 1, 1);
         assert_eq!(rt; select(&rows, 1), 1 << 31);
     }
 
@@ -126,9 +119,9 @@ mod tests {
     fn those_that_ran_lack_less(rt: HostRuntime) {
         let mut rows = jobs();
         spend(&mut rows, 0b1000_1010);
-        assert_eq!(rt; rows[1].lacking, 0);
-        assert_eq!(rt; rows[3].lacking, 1);
-        assert_eq!(rt; rows[5].lacking, 1);
-        assert_eq!(rt; rows[7].lacking, 2);
+        assert_eq!(rt; rows[1].map(|held| held.lacking), Some(0));
+        assert_eq!(rt; rows[3].map(|held| held.lacking), Some(1));
+        assert_eq!(rt; rows[5].map(|held| held.lacking), Some(1));
+        assert_eq!(rt; rows[7].map(|held| held.lacking), Some(2));
     }
 }

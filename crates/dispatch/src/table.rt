@@ -6,33 +6,23 @@ ghost use Rattle.schedule.specs.State.{blank, put};
 ghost use Rattle.schedule.specs.Calls.{released, quiet};
 ghost use Rattle.schedule.specs.Order.{unfinished, word, runs, spent};
 ghost use Rattle.dispatch.specs.Keys.{Kept};
-ghost use Rattle.dispatch.specs.Rows.{slots, carded, task_at, row_of};
+ghost use Rattle.dispatch.specs.Rows.{row_said, slots, carded, task_at, row_of};
 
+use crate::held_task::HeldTask;
 use crate::jobs::Jobs;
 use crate::task_id::TaskId;
-use schedule::TaskRow;
 use task::Card;
 
 // how many rows there are: one for each number that a task can have
 pub(crate) const ROWS: usize = 32;
 
-// the row of a number that no task has
-const BLANK: TaskRow = TaskRow {
-    held: false,
-    run: 0,
-    period: 0,
-    deadline: 0,
-    latest: None,
-    lacking: 0,
-};
-
-// A row for each number, and the unfinished jobs in their order. Rows that hold a task have the times of a card.
+// The tasks that are held, each at its number, and the unfinished jobs in their order. A task has the times of a card.
 #[derive(Clone, Copy)]
 pub(crate) struct TaskTable {
-    rows: [TaskRow; ROWS],
+    rows: [Option<HeldTask>; ROWS],
     jobs: Jobs,
     ghost full: { length rows ≡ 32 },
-    ghost times: { (i : ℕ) → carded (slice_index_or rows i blank) ≡ true },
+    ghost times: { (i : ℕ) → carded (slots rows i) ≡ true },
     ghost kept: { Kept (slots rows) jobs.keys jobs.count },
 }
 
@@ -42,42 +32,38 @@ impl TaskTable {
         ensures { slots result.rows ≡ (λ _. blank) }
     {
         TaskTable {
-            rows: [BLANK; ROWS],
+            rows: [None; ROWS],
             jobs: Jobs::none(),
         }
     }
 
-    // The row of a number; a blank one, where the number is too large.
-    pub(crate) fn row(&self, id: u32) -> TaskRow
-        ensures { result ≡ slots self.now.rows id }
+    // The task of a number, if it is held.
+    pub(crate) fn task(&self, id: u32) -> Option<HeldTask>
+        ensures { row_said result ≡ slots self.now.rows id }
     {
-        self.rows.get(id as usize).copied().unwrap_or(BLANK)
+        *self.rows.get(id as usize)?
     }
 
     // Whether a task of this number is held.
     pub(crate) fn holds(&self, id: u32) -> bool
         ensures { result ≡ (slots self.now.rows id).held }
     {
-        self.row(id).held
+        self.task(id).is_some()
     }
 
     // The card of the task with this number, if it is held.
     pub(crate) fn card(&self, id: u32) -> Option<Card>
         ensures { option_map task_of result ≡ (if (slots self.now.rows id).held then Some (task_at id (slots self.now.rows id)) else None) }
     {
-        let row = self.row(id);
-        if row.held {
-            Card::new(id, row.run, row.period, row.deadline)
-        } else {
-            None
-        }
+        let held = self.task(id)?;
+        Card::new(id, held.run, held.period, held.deadline)
     }
 
-    // Puts a row without an unfinished job in the place of another.
-    fn set(&mut self, task: TaskId, row: TaskRow)
-        requires finished { unfinished row ≡ false }
-        requires times { carded row ≡ true }
-        ensures { slots self.new.rows ≡ put (slots self.old.rows) task.number row }
+    // Puts a task without an unfinished job, or none, in the place of another.
+    fn set(&mut self, task: TaskId, row: Option<HeldTask>)
+        requires finished { unfinished (row_said row) ≡ false }
+        requires times { carded (row_said row) ≡ true }
+        ensures { slots self.new.rows ≡ put (slots self.old.rows) task.number (row_said row) }
     {
         self.jobs.replace(&mut self.rows, task, row);
     }
@@ -87,15 +73,7 @@ impl TaskTable {
         ensures { slots result.rows ≡ put (slots self.now.rows) (task_of card.now).id (row_of (task_of card.now)) }
     {
         let mut tasks = *self;
-        let row = TaskRow {
-            held: true,
-            run: card.run(),
-            period: card.period(),
-            deadline: card.deadline(),
-            latest: None,
-            lacking: 0,
-        };
-        tasks.set(TaskId::from(card), row);
+        tasks.set(TaskId::from(card), Some(HeldTask::new(card)));
         tasks
     }
 
@@ -103,11 +81,12 @@ impl TaskTable {
     pub(crate) fn clear(&mut self, task: TaskId)
         ensures { slots self.new.rows ≡ put (slots self.old.rows) task.number blank }
     {
-        self.set(task, BLANK);
+        self.set(task, None);
     }
 
-    // Starts a job of a task at a clock.
+    // Starts a job, at a clock, of a task that is held.
     pub(crate) fn release(&mut self, task: TaskId, at: u32, run: u32)
+        requires { (slots self.old.rows task.number).held ≡ true }
         ensures { slots self.new.rows ≡ put (slots self.old.rows) task.number (released at run (slots self.old.rows task.number)) }
     {
         self.jobs.release(&mut self.rows, task, at, run);
@@ -143,8 +122,15 @@ mod tests {
 
     fn release(tasks: &mut TaskTable, id: u32, at: u32, run: u32) {
         if let Some(task) = TaskId::new(id) {
-            tasks.release(task, at, run);
+            if tasks.holds(id) {
+                tasks.release(task, at, run);
+            }
         }
+    }
+
+    // The ticks that the job of a task lacks.
+    fn lacking(tasks: &TaskTable, id: u32) -> Option<u32> {
+        tasks.task(id).map(|held| held.lacking)
     }
 
     // The word of those that would run.
@@ -179,9 +165,9 @@ mod tests {
     fn jobs_run_until_they_are_done(rt: HostRuntime) {
         let mut tasks = jobs();
         assert_eq!(rt; tasks.run(2), 0b1000_1000);
-        assert_eq!(rt; tasks.row(3).lacking, 1);
-        assert_eq!(rt; tasks.row(5).lacking, 1);
-        assert_eq!(rt; tasks.row(7).lacking, 2);
+        assert_eq!(rt; lacking(&tasks, 3), Some(1));
+        assert_eq!(rt; lacking(&tasks, 5), Some(1));
+        assert_eq!(rt; lacking(&tasks, 7), Some(2));
         assert_eq!(rt; tasks.run(2), 0b1000_1000);
         assert_eq!(rt; tasks.run(2), 0b1010_0000);
         assert_eq!(rt; tasks.quiet(), true);

@@ -16,7 +16,7 @@ use Rattle.schedule.specs.Calls.{ask, answer, after, answer_by, refusal, admitte
 use Rattle.schedule.specs.Counting.{least}
 use Rattle.schedule.specs.Numbers.{task_named}
 use Rattle.schedule.specs.State.{State, put}
-use Rattle.schedule.specs.declared.TaskRow.{TaskRow}
+use Rattle.schedule.specs.Row.{TaskRow}
 use Rattle.schedule.specs.Test.{level_from, witness, first_unserved, serves, unserved, passes}
 use Rattle.schedule.proofs.Searches.{least_le}
 use Rattle.listing.specs.Listing.{fault_line, rack_line, yes_line, no_line, admission, task_line, task_lines, over_rack, listed}

@@ -5,7 +5,7 @@ use native.Mathlib.Nat.{sub-zero}
 use Rattle.std.proofs.lemmas.Bool.{cases_lt, cases_eq, eqb-true, ne_eqb, lt-ltb, ltb-true, and_parts, and_from, leb-true, both_ways, true≢false}
 use Rattle.task.specs.Task.{timely}
 use Rattle.supply.specs.Window.{window, Windows}
-use Rattle.schedule.specs.declared.TaskRow.{TaskRow}
+use Rattle.schedule.specs.Row.{TaskRow}
 use Rattle.schedule.specs.Counting.{sum, least}
 use Rattle.schedule.specs.State.{State, blank, fresh, put}
 use Rattle.schedule.specs.Test.{charge, others, load, serves, witness, passes, LeastLevel}

@@ -1,7 +1,7 @@
 -- What the test finds, and the one fact of it that the promise rests on. Assumes nothing.
 use Rattle.std.proofs.Common.{◌≡◌, ℕ, zero, suc, ◌+◌, ◌-◌, ◌*◌, ◌<◌, ◌≤◌, Bool, true, false, cond, ◌⊎◌, ap, ◌∙◌, inl, inr, mul-one, mul-add, arith}
 use Rattle.std.proofs.lemmas.Bool.{cases_lt, lt-ltb, le-ltb, leb-true, le-leb, eqb-true, eqb-false, and_parts, both_ways}
-use Rattle.schedule.specs.declared.TaskRow.{TaskRow}
+use Rattle.schedule.specs.Row.{TaskRow}
 use Rattle.schedule.specs.Counting.{sum, least}
 use Rattle.schedule.specs.Test.{charge, others, load, serves, witness, level_from, unserved, first_unserved, passes, LeastLevel, NoLevelServes, TestLaw}
 use Rattle.schedule.proofs.Searches.{least_passes, least_below}

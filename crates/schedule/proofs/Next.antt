@@ -1,7 +1,7 @@
 -- The job that one processor more lets run is the first-ranked of those that were left out. Assumes nothing.
 use Rattle.std.proofs.Common.{◌≡◌, ℕ, ◌+◌, ◌^◌, ◌<◌, ◌≤◌, Bool, true, false, cond, ◌&&◌, ltb, ◌⊎◌, sym, refl, ap, ◌∙◌, inl, inr, arith}
 use Rattle.std.proofs.lemmas.Bool.{cases_Bool, lt-ltb, le-ltb, ltb-true, ltb-false, and_parts, and_from, and_right}
-use Rattle.schedule.specs.declared.TaskRow.{TaskRow}
+use Rattle.schedule.specs.Row.{TaskRow}
 use Rattle.schedule.specs.Order.{unfinished, ahead, rank, runs, word}
 use Rattle.schedule.proofs.Sums.{sum_same, sum_grown, sum_zero}
 use Rattle.schedule.proofs.Ranks.{rank_lt, first_left}

@@ -2,7 +2,7 @@
 use Rattle.std.proofs.Common.{◌≡◌, ℕ, zero, suc, ◌+◌, ◌-◌, ◌*◌, ◌/◌, ◌%◌, ◌<◌, ◌≤◌, min, max, Bool, true, false, cond, leb, ◌⊎◌, Some, None, Option, refl, ap, ◌∙◌, inl, inr, mod-lt, div-lt_iff_lt-mul, mul-le-mul_left, mul-zero, div-add-mod', le-div_iff_mul-le, mul-add, div-mul-le_self, arith}
 use native.Mathlib.Nat.{div-zero, add-div_right, zero-div}
 use Rattle.std.proofs.lemmas.Bool.{cases_lt, le-leb, lt-leb, false≢true}
-use Rattle.schedule.specs.declared.TaskRow.{TaskRow}
+use Rattle.schedule.specs.Row.{TaskRow}
 use Rattle.schedule.specs.State.{with_job}
 use Rattle.schedule.specs.Test.{charge}
 use Rattle.schedule.specs.Order.{released_at, due, spent}

@@ -1,8 +1,8 @@
 -- Rows with one of them replaced, and sums over the others. Assumes nothing.
-use Rattle.std.proofs.Common.{◌≡◌, ℕ, ◌+◌, ◌<◌, ◌≤◌, Bool, true, false, cond, eqb, List, length, get_or, set, sym, refl, arith, get_or-set_other, get_or-set_same}
+use Rattle.std.proofs.Common.{◌≡◌, ℕ, ◌+◌, ◌≤◌, Bool, true, false, cond, eqb, sym, refl, arith}
 use Rattle.std.proofs.lemmas.Bool.{eqb-true, eqb-false, eq-eqb, ne_eqb, true≢false}
-use Rattle.schedule.specs.declared.TaskRow.{TaskRow}
-use Rattle.schedule.specs.State.{blank, put}
+use Rattle.schedule.specs.Row.{TaskRow}
+use Rattle.schedule.specs.State.{put}
 
 module _ (slot : ℕ → TaskRow) (id : ℕ) (r : TaskRow) where
   pub put_same : (i : ℕ) → i ≡ id → put slot id r i ≡ r
@@ -27,7 +27,3 @@ one_picked false false x y t h = omega arith
 pub picked_le : (c : Bool) (x y : ℕ) → (c ≡ true → x ≤ y) → cond c x 0 ≤ cond c y 0
 picked_le true x y h = h refl
 picked_le false x y h = omega arith
-
--- the rows that a list holds, with one of them set
-pub put_set : (rows : List TaskRow) (id : ℕ) (r : TaskRow) → id < length rows → (i : ℕ) → get_or (set rows id r) i blank ≡ put (λ k. get_or rows k blank) id r i
-put_set rows id r below = put_elim (λ k. get_or rows k blank) id r (λ i x. get_or (set rows id r) i blank ≡ x) (get_or-set_same rows id r blank below) (λ i ne. get_or-set_other rows id i r blank ne)

@@ -1,3 +1,4 @@
+pub mod Row
 pub mod Numbers
 pub mod Counting
 pub mod State

@@ -1,6 +1,6 @@
 -- What a dispatcher knows. Assumes nothing.
 use Rattle.std.specs.Prelude.{ℕ, false, cond, None, Option, ◌==◌}
-use Rattle.schedule.specs.declared.TaskRow.{TaskRow}
+use Rattle.schedule.specs.Row.{TaskRow}
 
 -- the row of the coming ticks, the level table, the clock, and the rows of its tasks, of which those below 32 count
 pub record State : Type 0 where

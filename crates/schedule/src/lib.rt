@@ -8,19 +8,6 @@ ghost use Rattle.schedule.specs.Order.{OrderLaw};
 ghost use Rattle.schedule.specs.Calls.{RefusalLaw};
 ghost use Rattle.schedule.specs.Shift.{Guarantee};
 
-// One row of the dispatcher's table: a task's card, the clock of its latest release since its admission, and the ticks that
-// its job still lacks.
-// `held` is a flag and no `Option` round the row: the definitions speak of rows with it, and an `Option` would need a second record.
-#[derive(Clone, Copy, PartialEq, Eq, Debug)]
-pub struct TaskRow {
-    pub held: bool,
-    pub run: u32,
-    pub period: u32,
-    pub deadline: u32,
-    pub latest: Option<u32>,
-    pub lacking: u32,
-}
-
 // What a dispatcher is asked.
 #[derive(Clone, Copy, PartialEq, Eq, Debug)]
 pub enum Call {

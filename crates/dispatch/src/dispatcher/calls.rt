@@ -1,28 +1,29 @@
 // What a dispatcher is asked. A call that is refused changes nothing.
-ghost use Rattle.std.specs.Prelude.{◌≡◌, ℕ, suc, ◌+◌, ◌<◌, true, false, is_ok};
+ghost use Rattle.std.specs.Prelude.{◌≡◌, ℕ, suc, ◌+◌, ◌<◌, true, false, is_ok, Some};
 ghost use Rattle.std.specs.Result.{IfOk, result_err};
 ghost use Rattle.schedule.specs.State.{fresh};
 ghost use Rattle.schedule.specs.Calls.{ready, answer, after};
 ghost use Rattle.schedule.specs.declared.Call.TheVariants.{Admit, Level, Withdraw, Release, Tick};
 ghost use Rattle.dispatch.specs.Dispatcher.{state_of, unheld, level_answer, pass_answer, tick_answer};
-ghost use Rattle.dispatch.specs.Rows.{slots};
+ghost use Rattle.dispatch.specs.Rows.{row_said, slots};
 
 use super::Dispatcher;
 use crate::held::HeldTasks;
+use crate::held_task::HeldTask;
 use crate::task_id::TaskId;
 use crate::test::{first_unserved, witness};
-use schedule::{Refusal, TaskRow};
+use schedule::Refusal;
 use supply::Supply;
 use task::Card;
 
 // the clock at which no further tick can pass
 const MAX_CLOCK: u32 = 1_000_000_000;
 
-// Whether a job of the task in this row may start at a clock: none did yet, or the period since the latest has passed.
-fn ready(row: &TaskRow, at: u32) -> bool
-    ensures { result ≡ ready at row.now.period row.now.latest }
+// Whether a job of a task may start at a clock: none did yet, or the period since the latest has passed.
+fn ready(held: &HeldTask, at: u32) -> bool
+    ensures { result ≡ ready at held.now.period held.now.latest }
 {
-    row.latest.is_none_or(|latest| u64::from(latest) + u64::from(row.period) <= u64::from(at))
+    held.latest.is_none_or(|latest| u64::from(latest) + u64::from(held.period) <= u64::from(at))
 }
 
 impl<S: Supply> Dispatcher<S> {
@@ -38,16 +39,14 @@ impl<S: Supply> Dispatcher<S> {
     }
 
     // The task of a number, if it is held.
-    fn held(&self, id: u32) -> Result<TaskId, Refusal>
-        ensures named { IfOk result (λ task. task.number ≡ id) }
+    fn held(&self, id: u32) -> Result<(TaskId, HeldTask), Refusal>
+        ensures named { IfOk result (λ task. task.0.number ≡ id) }
+        ensures row { IfOk result (λ task. row_said (Some task.1) ≡ slots self.now.tasks.table.rows id) }
         ensures refused { result_err result ≡ unheld (slots self.now.tasks.table.rows) id }
     {
         let task = TaskId::new(id).ok_or(Refusal::NumberTooLarge)?;
-        if self.tasks.table.holds(id) {
-            Ok(task)
-        } else {
-            Err(Refusal::NotHeld)
-        }
+        let held = self.tasks.table.task(id).ok_or(Refusal::NotHeld)?;
+        Ok((task, held))
     }
 
     // The least level that serves a task that is held.
@@ -84,7 +83,7 @@ impl<S: Supply> Dispatcher<S> {
         ensures after { state_of S.Supply.row S.Supply.table self.new ≡ after (state_of S.Supply.row S.Supply.table self.old) (Withdraw id) }
         ensures same { is_ok result ≡ false → self.new ≡ self.old }
     {
-        let task = self.held(id)?;
+        let (task, _) = self.held(id)?;
         if !self.tasks.table.quiet() {
             return Err(Refusal::JobUnfinished);
         }
@@ -98,12 +97,11 @@ impl<S: Supply> Dispatcher<S> {
         ensures after { state_of S.Supply.row S.Supply.table self.new ≡ after (state_of S.Supply.row S.Supply.table self.old) (Release id run) }
         ensures same { is_ok result ≡ false → self.new ≡ self.old }
     {
-        let task = self.held(id)?;
-        let row = self.tasks.table.row(id);
-        if run < 1 || row.run < run {
+        let (task, held) = self.held(id)?;
+        if run < 1 || held.run < run {
             return Err(Refusal::BadRunTime);
         }
-        if !ready(&row, self.clock) {
+        if !ready(&held, self.clock) {
             return Err(Refusal::TooSoon);
         }
         self.tasks.release(task, self.clock, run);

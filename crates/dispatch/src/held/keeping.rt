@@ -77,8 +77,9 @@ impl HeldTasks {
         self.loads = loads(&self.table);
     }
 
-    // Starts a job of a task at a clock.
+    // Starts a job, at a clock, of a task that is held.
     pub(crate) fn release(&mut self, task: TaskId, at: u32, run: u32)
+        requires { (slots self.old.table.rows task.number).held ≡ true }
         ensures { slots self.new.table.rows ≡ put (slots self.old.table.rows) task.number (released at run (slots self.old.table.rows task.number)) }
     {
         self.table.release(task, at, run);

@@ -1,5 +1,5 @@
-use Rattle.std.proofs.Common.{◌≡◌, ℕ, ◌&&◌, eqb, ltb, length, get_or}
-use Rattle.schedule.specs.State.{blank}
+use Rattle.std.proofs.Common.{◌≡◌, ℕ, ◌&&◌, eqb, ltb, length}
+use Rattle.dispatch.specs.Rows.{slots}
 use Rattle.schedule.specs.Order.{names, spent}
 use Rattle.dispatch.proofs.select.spend.Given as goal
 
@@ -7,4 +7,4 @@ use Rattle.dispatch.proofs.select.spend.Given as goal
 abbrev pub invariant-loop-i : goal.invariant-loop-i
 invariant-loop-i l =
     (length l.rows ≡ 32)
-    × ((k : ℕ) → get_or l.rows k blank ≡ spent (ltb k l.i && eqb (names l.ran k) 1) (get_or l.initial.rows k blank))
+    × ((k : ℕ) → slots l.rows k ≡ spent (ltb k l.i && eqb (names l.ran k) 1) (slots l.initial.rows k))

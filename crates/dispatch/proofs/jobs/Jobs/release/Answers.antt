@@ -1,7 +1,5 @@
-use Rattle.std.proofs.Common.{◌<◌, length, set, ap, ◌∙◌, arith, get_or-set_same}
-use Rattle.schedule.specs.State.{put}
-use Rattle.dispatch.specs.Keys.{waits}
-use Rattle.dispatch.specs.Rows.{slots}
+use Rattle.std.proofs.Common.{◌<◌, length, Some, arith}
+use Rattle.dispatch.specs.Rows.{row_said, slots}
 use Rattle.dispatch.proofs.Waiting.{room_behind, new_key, joined_holds, kept_set}
 use Rattle.dispatch.proofs.jobs.Jobs.release.Goals as goal
 
@@ -15,16 +13,15 @@ pub join-requires-clause-new : goal.join-requires-clause-new
 join-requires-clause-new c =
     let old = c.args.self.now in
     let left = c.leave.new.self in
-    new_key (slots c.args.rows.now) c.args.task.number c.args.task.below old.keys old.count c.requires.kept left.keys left.count left.sorted c.leave.ensures (slots (set c.args.rows.now c.args.task.number c.start.new.row) c.args.task.number)
+    new_key (slots c.args.rows.now) c.args.task.number c.args.task.below old.keys old.count c.requires.kept left.keys left.count left.sorted c.leave.ensures (row_said (Some c.start.new.self))
 
-pub returns-clause-kept : goal.returns-clause-kept
-returns-clause-kept c =
+pub returns-in-Some-clause-kept : goal.returns-in-Some-clause-kept
+returns-in-Some-clause-kept c =
     let rows = c.args.rows.now in
     let id = c.args.task.number in
     let old = c.args.self.now in
     let left = c.leave.new.self in
     let now = c.join.new.self in
-    let row = c.start.new.row in
     let inside : id < length rows = omega (arith, c.told-rows, c.args.task.below) in
-    let holds = joined_holds (slots rows) id c.args.task.below old.keys old.count c.requires.kept left.keys left.count left.sorted c.leave.ensures (slots (set rows id row) id) now.keys now.count c.join.ensures in
-    kept_set rows id row now.keys now.count inside (λ x. holds x ∙ ap (λ r. waits (put (slots rows) id r) x) (get_or-set_same rows id row _ inside))
+    let holds = joined_holds (slots rows) id c.args.task.below old.keys old.count c.requires.kept left.keys left.count left.sorted c.leave.ensures (row_said (Some c.start.new.self)) now.keys now.count c.join.ensures in
+    kept_set rows id (Some c.start.new.self) now.keys now.count inside holds

@@ -1,5 +1,5 @@
 use Rattle.std.proofs.Common.{arith}
-use Rattle.dispatch.specs.Rows.{slots}
+use Rattle.dispatch.specs.Rows.{row_said, slots}
 use Rattle.dispatch.proofs.Waiting.{left_holds, kept_set}
 use Rattle.dispatch.proofs.jobs.Jobs.replace.Goals as goal
 
@@ -9,5 +9,5 @@ returns-clause-kept c =
     let id = c.args.task.number in
     let old = c.args.self.now in
     let left = c.leave.new.self in
-    let holds = left_holds (slots rows) id c.args.task.below old.keys old.count c.requires.kept left.keys left.count left.sorted c.leave.ensures c.args.row c.requires.finished in
+    let holds = left_holds (slots rows) id c.args.task.below old.keys old.count c.requires.kept left.keys left.count left.sorted c.leave.ensures (row_said c.args.row) c.requires.finished in
     kept_set rows id c.args.row left.keys left.count (omega (arith, c.told-rows, c.args.task.below)) holds

@@ -1,11 +1,13 @@
-use Rattle.std.proofs.Common.{◌≡◌, ◌+◌, ◌-◌, get_or, sym, refl, ap, ◌∙◌, subst, arith}
+use Rattle.std.proofs.Common.{◌≡◌, true, ◌+◌, ◌-◌, ◌<◌, ltb, get_or, Some, sym, refl, ap, ◌∙◌, subst, arith}
 use mir.Val.{bool_byte}
-use Rattle.dispatch.specs.Rows.{slots}
+use Rattle.schedule.specs.Order.{spent}
+use Rattle.dispatch.specs.Rows.{row_said, slots}
 use Rattle.dispatch.proofs.Keys.{Filtered, filtered_none, filtered_more}
 use Rattle.dispatch.proofs.Places.{InOrder}
 use Rattle.dispatch.proofs.Tables.{unfinished_below}
 use Rattle.dispatch.proofs.Ticks.{Ran, stays, ran_first, stays_first, lacks_here, stays_here, ran_more, word_behind, kept_behind}
 use Rattle.dispatch.proofs.jobs.Jobs.run.Goals as goal
+use Rattle.dispatch.proofs.jobs.Jobs.run.Goals.{in-Some, in_default}
 
 pub loop-at-init : goal.loop-at-init
 loop-at-init c =
@@ -28,7 +30,8 @@ work-requires c =
     let kept : InOrder (slots rows) old.keys old.count = record { sorted = old.sorted; holds = c.requires } in
     let key = get_or c.loop-at.self.keys c.loop-at.at 0 in
     let is = c.loop-at.invariant.1.rest c.loop-at.at (omega arith) in
-    lacks_here (slots rows) old.keys old.count kept (unfinished_below rows c.told-rows) c.args.given c.saturating_sub-first.result c.saturating_sub-first.ensures c.loop-at.at key c.loop-at-test.true c.loop-at.auto.at is c.loop-at.rows c.loop-at.word c.loop-at.invariant.0
+    let lacks = lacks_here (slots rows) old.keys old.count kept (unfinished_below rows c.told-rows) c.args.given c.saturating_sub-first.result c.saturating_sub-first.ensures c.loop-at.at key c.loop-at-test.true c.loop-at.auto.at is c.loop-at.rows c.loop-at.word c.loop-at.invariant.0 in
+    subst (λ o. 0 < (row_said o).lacking) c.in-Some.is lacks
 
 pub loop-at-preserved : goal.loop-at-preserved
 loop-at-preserved c =
@@ -44,12 +47,21 @@ loop-at-preserved c =
     let key = get_or now.keys at 0 in
     let filtered = c.loop-at.invariant.1 in
     let is = filtered.rest at (omega arith) in
-    let test = stays_here slot old.keys old.count kept within g first from at key c.loop-at-test.true c.loop-at.auto.at is c.loop-at.rows c.loop-at.word c.loop-at.invariant.0 ∙ sym c.work.ensures.more in (
-      ran_more slot old.keys old.count kept within g first from at key c.loop-at-test.true c.loop-at.auto.at is c.loop-at.rows c.loop-at.word c.loop-at.invariant.0 c.work.new.row c.work.ensures.row,
-      filtered_more old.keys now.keys c.loop-at.place at key (stays slot g) filtered refl old.count (c.loop-at.place + c.from-place.result) old.sorted c.loop-at-test.true (ap (λ b. c.loop-at.place + b) (c.from-place.ensures ∙ ap bool_byte (sym test))),
-      c.loop-at.invariant.2,
-      omega (arith, c.loop-at.invariant.3),
-    )
+    elim c.match-rows-id.branch [
+      | in-Some w ↦
+          let more = stays_here slot old.keys old.count kept within g first from at key c.loop-at-test.true c.loop-at.auto.at is c.loop-at.rows c.loop-at.word c.loop-at.invariant.0 in
+          let test = more ∙ ap (λ o. ltb 1 (row_said o).lacking) w.in-Some.is ∙ sym w.work.ensures.more in
+          let spends = w.work.ensures.row ∙ ap (λ o. spent true (row_said o)) (sym w.in-Some.is) in
+          rw (w.rows-is, w.place-is) (
+            ran_more slot old.keys old.count kept within g first from at key c.loop-at-test.true c.loop-at.auto.at is c.loop-at.rows c.loop-at.word c.loop-at.invariant.0 (Some w.work.new.self) spends,
+            filtered_more old.keys now.keys c.loop-at.place at key (stays slot g) filtered refl old.count (c.loop-at.place + w.from-place.result) old.sorted c.loop-at-test.true (ap (λ b. c.loop-at.place + b) (w.from-place.ensures ∙ ap bool_byte (sym test))),
+            c.loop-at.invariant.2,
+            omega (arith, c.loop-at.invariant.3),
+          )
+      | in_default w ↦
+          let lacks = lacks_here slot old.keys old.count kept within g first from at key c.loop-at-test.true c.loop-at.auto.at is c.loop-at.rows c.loop-at.word c.loop-at.invariant.0 in
+          absurd (omega (arith, lacks, ap (λ o. (row_said o).lacking) w.in_default.is))
+    ]
 
 pub returns-clause-word : goal.returns-clause-word
 returns-clause-word c =
