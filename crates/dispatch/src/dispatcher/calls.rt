@@ -49,7 +49,7 @@ impl<S: Supply> Dispatcher<S> {
         Ok((task, held))
     }
 
-    // The least level that serves a task that is held.
+    // The least level that serves a task that is held; 0, where none does, as the definition of the answer has it.
     pub fn level(&self, id: u32) -> Result<u32, Refusal>
         ensures answer { level_answer result ≡ answer (state_of S.Supply.row S.Supply.table self.now) (Level id) }
     {
@@ -57,7 +57,8 @@ impl<S: Supply> Dispatcher<S> {
         Ok(witness(&self.tasks, &self.supply, id).unwrap_or(0))
     }
 
-    // Takes a task in, if its card is sound, its number is free and every task has a level then; answers its level.
+    // Takes a task in, if its card is sound, its number is free and every task has a level then; answers its level. It takes four
+    // numbers and no card: not every four are one.
     pub fn admit(&mut self, id: u32, run: u32, period: u32, deadline: u32) -> Result<u32, Refusal>
         ensures answer { level_answer result ≡ answer (state_of S.Supply.row S.Supply.table self.old) (Admit id run period deadline) }
         ensures after { state_of S.Supply.row S.Supply.table self.new ≡ after (state_of S.Supply.row S.Supply.table self.old) (Admit id run period deadline) }

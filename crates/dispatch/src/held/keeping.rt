@@ -54,6 +54,7 @@ impl HeldTasks {
         requires { (slots self.now.table.rows (task_of card.now).id).held ≡ false }
         ensures { slots result.table.rows ≡ put (slots self.now.table.rows) (task_of card.now).id (row_of (task_of card.now)) }
     {
+        // one walk, by number: a chain would go over the tasks twice, for the loads and for the sum
         let mut loads = self.loads;
         let mut own = 0;
         for k in 0..TASKS {
@@ -69,7 +70,7 @@ impl HeldTasks {
         }
     }
 
-    // Lets a task go.
+    // Lets a task go. This and the two below are here beside the table's own, since they say that the loads stay right.
     pub(crate) fn clear(&mut self, task: TaskId)
         ensures { slots self.new.table.rows ≡ put (slots self.old.table.rows) task.number blank }
     {
