@@ -94,9 +94,7 @@ fn parse(line: &[u8]) -> Option<Step> {
 // The calls of a text, each as often as it is made, or the first line that cannot be read. The last line may lack its byte 10.
 pub(crate) fn read(heap: Global, text: &[u8]) -> Result<Vec<Call>, ReadError> {
     let mut calls = Vec::new(heap);
-    let mut number: u64 = 0;
-    for line in text.split_inclusive(|b| *b == b'\n') {
-        number = number.saturating_add(1);
+    for (number, line) in (1u64..).zip(text.split_inclusive(|b| *b == b'\n')) {
         let step = parse(line.strip_suffix(b"\n").unwrap_or(line)).ok_or(ReadError::Line(number))?;
         let count = calls.len().saturating_add(step.times as usize);
         if count > MAX_CALLS {
