@@ -143,10 +143,11 @@ impl Jobs {
     {
         let id = task.number as usize;
         self.leave(task, &rows[id]);
-        if let Some(held) = &mut rows[id] {
-            held.start(at, run);
-            self.join(task, held, at);
-        }
+        let Some(held) = &mut rows[id] else {
+            unreachable!()
+        };
+        held.start(at, run);
+        self.join(task, held, at);
     }
 
     // Lets a tick pass on the given processors, of which the soonest jobs get one each; answers the word of their tasks: bit
@@ -169,9 +170,10 @@ impl Jobs {
             let id = (key % NUMBERS) as usize;
             word |= 1 << id;
             self.keys[place] = key;
-            if let Some(held) = &mut rows[id] {
-                place += usize::from(held.work());
-            }
+            let Some(held) = &mut rows[id] else {
+                unreachable!()
+            };
+            place += usize::from(held.work());
         }
         self.count = place;
         word

@@ -15,8 +15,8 @@ join-requires-clause-new c =
     let left = c.leave.new.self in
     new_key (slots c.args.rows.now) c.args.task.number c.args.task.below old.keys old.count c.requires.kept left.keys left.count left.sorted c.leave.ensures (row_said (Some c.start.new.self))
 
-pub returns-in-Some-clause-kept : goal.returns-in-Some-clause-kept
-returns-in-Some-clause-kept c =
+pub returns-clause-kept : goal.returns-clause-kept
+returns-clause-kept c =
     let rows = c.args.rows.now in
     let id = c.args.task.number in
     let old = c.args.self.now in

@@ -7,7 +7,6 @@ use Rattle.dispatch.proofs.Places.{InOrder}
 use Rattle.dispatch.proofs.Tables.{unfinished_below}
 use Rattle.dispatch.proofs.Ticks.{Ran, stays, ran_first, stays_first, lacks_here, stays_here, ran_more, word_behind, kept_behind}
 use Rattle.dispatch.proofs.jobs.Jobs.run.Goals as goal
-use Rattle.dispatch.proofs.jobs.Jobs.run.Goals.{in-Some, in_default}
 
 pub loop-at-init : goal.loop-at-init
 loop-at-init c =
@@ -22,6 +21,16 @@ loop-at-init c =
       refl,
       omega arith,
     )
+
+pub unreachable-requires : goal.unreachable-requires
+unreachable-requires c =
+    let rows = c.args.rows.now in
+    let old = c.args.self.now in
+    let kept : InOrder (slots rows) old.keys old.count = record { sorted = old.sorted; holds = c.requires } in
+    let key = get_or c.loop-at.self.keys c.loop-at.at 0 in
+    let is = c.loop-at.invariant.1.rest c.loop-at.at (omega arith) in
+    let lacks = lacks_here (slots rows) old.keys old.count kept (unfinished_below rows c.told-rows) c.args.given c.saturating_sub-first.result c.saturating_sub-first.ensures c.loop-at.at key c.loop-at-test.true c.loop-at.auto.at is c.loop-at.rows c.loop-at.word c.loop-at.invariant.0 in
+    absurd (omega (arith, lacks, ap (λ o. (row_said o).lacking) c.in_default.is))
 
 pub work-requires : goal.work-requires
 work-requires c =
@@ -47,21 +56,14 @@ loop-at-preserved c =
     let key = get_or now.keys at 0 in
     let filtered = c.loop-at.invariant.1 in
     let is = filtered.rest at (omega arith) in
-    elim c.match-rows-id.branch [
-      | in-Some w ↦
-          let more = stays_here slot old.keys old.count kept within g first from at key c.loop-at-test.true c.loop-at.auto.at is c.loop-at.rows c.loop-at.word c.loop-at.invariant.0 in
-          let test = more ∙ ap (λ o. ltb 1 (row_said o).lacking) w.in-Some.is ∙ sym w.work.ensures.more in
-          let spends = w.work.ensures.row ∙ ap (λ o. spent true (row_said o)) (sym w.in-Some.is) in
-          rw (w.rows-is, w.place-is) (
-            ran_more slot old.keys old.count kept within g first from at key c.loop-at-test.true c.loop-at.auto.at is c.loop-at.rows c.loop-at.word c.loop-at.invariant.0 (Some w.work.new.self) spends,
-            filtered_more old.keys now.keys c.loop-at.place at key (stays slot g) filtered refl old.count (c.loop-at.place + w.from-place.result) old.sorted c.loop-at-test.true (ap (λ b. c.loop-at.place + b) (w.from-place.ensures ∙ ap bool_byte (sym test))),
-            c.loop-at.invariant.2,
-            omega (arith, c.loop-at.invariant.3),
-          )
-      | in_default w ↦
-          let lacks = lacks_here slot old.keys old.count kept within g first from at key c.loop-at-test.true c.loop-at.auto.at is c.loop-at.rows c.loop-at.word c.loop-at.invariant.0 in
-          absurd (omega (arith, lacks, ap (λ o. (row_said o).lacking) w.in_default.is))
-    ]
+    let more = stays_here slot old.keys old.count kept within g first from at key c.loop-at-test.true c.loop-at.auto.at is c.loop-at.rows c.loop-at.word c.loop-at.invariant.0 in
+    let test = more ∙ ap (λ o. ltb 1 (row_said o).lacking) c.in-Some.is ∙ sym c.work.ensures.more in
+    let spends = c.work.ensures.row ∙ ap (λ o. spent true (row_said o)) (sym c.in-Some.is) in (
+      ran_more slot old.keys old.count kept within g first from at key c.loop-at-test.true c.loop-at.auto.at is c.loop-at.rows c.loop-at.word c.loop-at.invariant.0 (Some c.work.new.self) spends,
+      filtered_more old.keys now.keys c.loop-at.place at key (stays slot g) filtered refl old.count (c.loop-at.place + c.from-place.result) old.sorted c.loop-at-test.true (ap (λ b. c.loop-at.place + b) (c.from-place.ensures ∙ ap bool_byte (sym test))),
+      c.loop-at.invariant.2,
+      omega (arith, c.loop-at.invariant.3),
+    )
 
 pub returns-clause-word : goal.returns-clause-word
 returns-clause-word c =
