@@ -18,11 +18,11 @@ pub(crate) struct HeldTask {
     pub(crate) lacking: u32,
 }
 
-impl HeldTask {
-    // A task that is admitted by a card.
-    pub(crate) fn new(card: &Card) -> HeldTask
-        ensures { row_said (Some result) ≡ row_of (task_of card.now) }
-    {
+// A task that is admitted by a card.
+impl From<&Card> for HeldTask {
+    ghost from_gives = { λ card held. row_said (Some held) ≡ row_of (task_of card.now) };
+
+    fn from(card: &Card) -> HeldTask {
         HeldTask {
             run: card.run(),
             period: card.period(),
@@ -31,7 +31,9 @@ impl HeldTask {
             lacking: 0,
         }
     }
+}
 
+impl HeldTask {
     // Whether its job lacks ticks.
     pub(crate) fn unfinished(&self) -> bool
         ensures { result ≡ unfinished (row_said (Some self.now)) }

@@ -15,7 +15,8 @@ const NUMBERS: u64 = 32;
 
 // The keys of the jobs, the soonest last. A key has the clock at which its job has to be done, and below it the task's
 // number, so that keys are in the order of the jobs.
-// An array with its count: an admission is tested on a copy, and copying an `ArrayVec` can fail.
+// An array with its count: keys are put in and moved in place, which a `FixedList` does not offer, and an `ArrayVec` cannot be copied, as
+// the table is where an admission is tested.
 #[derive(Clone, Copy)]
 pub(crate) struct Jobs {
     keys: [u64; ROWS],
@@ -161,7 +162,8 @@ impl Jobs {
     {
         let end = self.count;
         let first = end.saturating_sub(given as usize);
-        // by hand, and no key from here on counts meanwhile: with a count that moved along, a tick took 17.6 ns in place of 16.3
+        // keys move by index, since each is read and perhaps written in front; no key from here on counts meanwhile: with a count that
+        // moved along, a tick took 17.6 ns in place of 16.3
         self.count = first;
         let mut place = first;
         let mut word = 0;

@@ -8,7 +8,7 @@ ghost use Rattle.dispatch.specs.Times.{never, due_time, Soonest};
 use crate::held_task::HeldTask;
 use crate::table::ROWS;
 
-// later than every time by which a job has to be done; no `Option`, in whose order `None` would come first
+// later than every time by which a job has to be done; no `Option`: in its order `None` comes first, and each search would leave it out
 const NEVER: u64 = u64::MAX;
 
 // The time by which the row's job has to be done; NEVER, where it has no unfinished job. An unfinished job was released: the 0 is the

@@ -73,7 +73,7 @@ impl TaskTable {
         ensures { slots result.rows ≡ put (slots self.now.rows) (task_of card.now).id (row_of (task_of card.now)) }
     {
         let mut tasks = *self;
-        tasks.set(TaskId::from(card), Some(HeldTask::new(card)));
+        tasks.set(TaskId::from(card), Some(HeldTask::from(card)));
         tasks
     }
 

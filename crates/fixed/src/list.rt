@@ -5,6 +5,7 @@ use std::alloc::AllocError;
 mod filling;
 
 // Up to `N` items in order, which lie in the value itself. It is `Copy` where its items are: an `ArrayVec` never is, and its clone may fail.
+// It has no model: what is `Copy` needs one that keeps all, and the free places are to be forgotten.
 pub struct FixedList<T, const N: usize> {
     items: [T; N],
     count: usize,

@@ -69,7 +69,7 @@ fn ticks(s: &[u8]) -> Option<Step> {
     })
 }
 
-// What a line of calls says; none, where it cannot be read.
+// What a line of calls says; none, where it cannot be read. No `TryFrom`: the error would say nothing.
 fn parse(line: &[u8]) -> Option<Step> {
     let Some((word, rest)) = text::cut(line, b',') else {
         return match line {

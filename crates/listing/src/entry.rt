@@ -10,8 +10,5 @@ pub fn gap_listing(text: &[u8], out: &mut [u8]) -> usize
     ensures length { result ≡ (if nat_le 512 (length out.old) then length (listing text.now) else 0) }
     ensures bytes { out.new ≡ (if nat_le 512 (length out.old) then laid 0 (listing text.now) out.old else out.old) }
 {
-    match list(text, out) {
-        Ok(len) => len,
-        Err(_) => 0,
-    }
+    list(text, out).unwrap_or(0)
 }

@@ -54,6 +54,7 @@ fn other_line(bytes: &[u8], line: u32) -> Fault
     }
 }
 
+// The fields of a line. No `TryFrom`: a fault needs the line's number.
 pub(crate) fn parse(bytes: &[u8], line: u32) -> Result<Line<'_>, Fault>
     ensures { content_said result ≡ content line (parts 44 bytes.now) }
 {

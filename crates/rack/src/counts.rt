@@ -7,7 +7,8 @@ ghost use Rattle.rack.specs.Slots.{gives, slot_row};
 use crate::running::MAX_CYCLE;
 use plan::{Plan, SlotRow};
 
-// Counts one row more in `count` ticks from tick `start` on, where a round of its marks begins.
+// Counts one row more in `count` ticks from tick `start` on, where a round of its marks begins. By index, since of what an adapter of
+// `iter_mut` lends a proof knows nothing afterwards.
 fn add_round(counts: &mut [u8; MAX_CYCLE], row: &SlotRow, start: usize, count: usize)
     requires within { start + count ≤ 512 }
     requires begins { start % length (marks_of row.now) ≡ 0 }
@@ -29,7 +30,7 @@ fn add_row(counts: &mut [u8; MAX_CYCLE], row: &SlotRow, cycle: usize)
 {
     let period = row.period();
     let mut start = 0;
-    // by hand: a remainder at each tick takes 1.5 times as long, and of what `chunks_mut` lends a proof knows nothing behind the loop
+    // by hand: of what `chunks_mut` lends a proof knows nothing behind the loop, and a remainder at each tick takes 1.5 times as long
     while start + period <= cycle {
         add_round(counts, row, start, period);
         start += period;

@@ -12,15 +12,15 @@ const MAX_KEPT: usize = 32;
 
 #[derive(Drop)]
 pub(crate) struct Kept {
-    // by a length below the cycle, the place of its least windows, if they are kept; the windows themselves would take
-    // nine times as much of the stack here
+    // by a length below the cycle, the place of its least windows, if they are kept; the windows themselves would take six times as much
+    // of the stack as this and the list below
     place: [Option<u8>; MAX_CYCLE],
     // by place, the least windows at the levels from 1 to 8
     least: FixedList<[u16; LEVELS], MAX_KEPT>,
     ghost placed: { (s p : ℕ) → place_of place s ≡ Some p → p < length (listed least) },
 }
 
-// A length below 512 is asked for in three functions: a type for it would be made and taken apart in each.
+// Three functions ask for a length below 512: a type for it would have this one use, and be no plainer.
 impl Kept {
     // Nothing is kept yet.
     pub(crate) fn none() -> Kept

@@ -15,7 +15,7 @@ use supply::{MAX_LENGTH, MAX_LEVEL};
 pub(crate) struct Levels {
     // how many processors each tick of the cycle gives
     given: [u8; MAX_CYCLE],
-    // how many ticks the cycle has: a number of its own beside them, since the sums and the kept windows go as far as it too
+    // how many ticks the cycle has: a number of its own, since clauses of `SlotRack` name it; in a list of fixed room it would be a length
     pub(crate) cycle: usize,
     // the running sums of the levels from 1 to 8
     sums: [LevelSums; LEVELS],
@@ -97,6 +97,7 @@ impl Levels {
             return self.sum(level, s);
         }
         let rest = self.cycle - s;
+        // as loops: a chain would have the same window and the same cast in its closure, and be no plainer
         // the lesser and the greater of signed numbers take fewer instructions
         let mut least = self.sum(level, s) as i16;
         for x in 1..rest {

@@ -11,7 +11,7 @@ pub(crate) const MAX_CYCLE: usize = 512;
 // one running sum for each number of ticks, from none to a whole cycle
 const SUMS: usize = 513;
 
-// The running sums of a level: at k, what the first k ticks of the cycle give, each tick cut to the level.
+// The running sums of a level: at k, what the first k ticks of the cycle give, each tick cut to the level. An array: it is always full.
 #[derive(Clone, Copy)]
 pub(crate) struct LevelSums {
     pub(crate) sums: [u16; SUMS],

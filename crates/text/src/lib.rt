@@ -26,7 +26,7 @@ pub fn cut(s: &[u8], b: u8) -> Option<(&[u8], &[u8])>
     Some((&s[..n], &s[n + 1..]))
 }
 
-// The number that up to ten digits write; none, where a byte is no digit.
+// The number that up to ten digits write; none, where a byte is no digit. No `parse`: that takes a sign.
 fn value(s: &[u8]) -> Option<u64>
     requires { length s.now ≤ 10 }
     ensures { result ≡ value_after 0 s.now }

@@ -58,7 +58,7 @@ impl<S: Supply> Dispatcher<S> {
     }
 
     // Takes a task in, if its card is sound, its number is free and every task has a level then; answers its level. It takes four
-    // numbers and no card: not every four are one.
+    // numbers and no card: not every four are one. Where every task has a level, the 0 does not come about.
     pub fn admit(&mut self, id: u32, run: u32, period: u32, deadline: u32) -> Result<u32, Refusal>
         ensures answer { level_answer result ≡ answer (state_of S.Supply.row S.Supply.table self.old) (Admit id run period deadline) }
         ensures after { state_of S.Supply.row S.Supply.table self.new ≡ after (state_of S.Supply.row S.Supply.table self.old) (Admit id run period deadline) }

@@ -48,7 +48,7 @@ impl<T: Copy, const N: usize> FixedList<T, N> {
     pub fn fill_from(&mut self, more: &[T])
         ensures { listed self.new ≡ take N (listed self.old ++ more.now) }
     {
-        // one by one: `copy_from_slice` is a `memmove`, which a C program's build need not have
+        // one by one: here `copy_from_slice` becomes a `memmove`, which a C program's build need not have
         for item in more {
             let Ok(()) = self.push(*item) else {
                 break;

@@ -7,7 +7,7 @@ use super::{MAX_MARKS, SlotRow};
 use fixed::FixedList;
 
 impl SlotRow {
-    // The row of period 1 that never gives a processor.
+    // The row of period 1 that never gives a processor: named for that, and no `Default`.
     pub(crate) fn idle() -> SlotRow
         ensures { marks_of result ≡ false ∷ [] }
     {

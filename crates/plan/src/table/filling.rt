@@ -21,7 +21,7 @@ impl SlotTable {
         }
     }
 
-    // One row of period 1 that never gives a processor.
+    // One row of period 1 that never gives a processor: named for that, and no `Default`.
     pub(crate) fn idle() -> SlotTable
         ensures { rows_of result ≡ (false ∷ []) ∷ [] }
     {
@@ -51,7 +51,7 @@ impl SlotTable {
     fn cycle_with(&self, row: &SlotRow) -> Option<usize>
         ensures { result ≡ at_most 512 (Some (cycle_of (periods_of (listed self.now.rows ++ row.now ∷ [])))) }
     {
-        // what all of them divide is a multiple of the cycle so far
+        // what all of them divide is a multiple of the cycle so far; a `for`, since nothing is known of what `find` gives over `step_by`
         for h in (self.cycle..=MAX_CYCLE).step_by(self.cycle) {
             if h % row.period() == 0 {
                 return Some(h);
