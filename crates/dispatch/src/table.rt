@@ -48,14 +48,14 @@ impl TaskTable {
     pub(crate) fn holds(&self, id: u32) -> bool
         ensures { result ≡ (slots self.now.rows id).held }
     {
-        self.task(id).is_some()
+        self.rows.get(id as usize).is_some_and(Option::is_some)
     }
 
     // The card of the task with this number, if it is held.
     pub(crate) fn card(&self, id: u32) -> Option<Card>
         ensures { option_map task_of result ≡ (if (slots self.now.rows id).held then Some (task_at id (slots self.now.rows id)) else None) }
     {
-        let held = self.task(id)?;
+        let held = self.rows.get(id as usize)?.as_ref()?;
         Card::new(id, held.run, held.period, held.deadline)
     }
 

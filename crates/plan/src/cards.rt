@@ -7,6 +7,7 @@ use task::Card;
 
 mod filling;
 
+// the most cards that a plan has: one for each number that a task can have
 const CARDS: usize = 32;
 
 // Up to 32 cards of distinct numbers, in the order of their lines.

@@ -7,6 +7,7 @@ use fixed::FixedList;
 
 mod filling;
 
+// the most rows that a slot table has
 pub(crate) const ROWS: usize = 8;
 
 // Up to eight rows, and the cycle after which they repeat together: the least common multiple of their periods.

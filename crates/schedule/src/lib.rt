@@ -58,7 +58,7 @@ pub enum Refusal {
     ClockAtEnd,
 }
 
-// What it answers.
+// What it answers: one list for five calls with three kinds of results, since a shift holds any of them, and so no `Result`.
 #[derive(Clone, Copy, PartialEq, Eq, Debug)]
 pub enum Answer {
     // of an admission and of a level question

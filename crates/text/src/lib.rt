@@ -60,7 +60,7 @@ pub fn decimal(s: &[u8]) -> Option<u32>
     decimal_up_to(s, MAX_DIGITS, MAX_NUMBER)
 }
 
-// The number of 32 bits that `s` writes in decimal, with no zero in front unless it is 0.
+// The number of 32 bits that `s` writes in decimal, with no zero in front unless it is 0. Like `decimal`, a line over what both share.
 pub fn decimal32(s: &[u8]) -> Option<u32>
     ensures { result ≡ number32 s.now }
 {

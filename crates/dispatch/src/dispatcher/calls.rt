@@ -1,4 +1,4 @@
-// What a dispatcher is asked. A call that is refused changes nothing.
+// What a dispatcher is asked. A call that is refused changes nothing, which each of the four that can change something says itself.
 ghost use Rattle.std.specs.Prelude.{◌≡◌, ℕ, suc, ◌+◌, ◌<◌, true, false, is_ok, Some};
 ghost use Rattle.std.specs.Result.{IfOk, result_err};
 ghost use Rattle.schedule.specs.State.{fresh};
