@@ -4,7 +4,7 @@ use Rattle.std.proofs.lemmas.List.{length-take, append_assoc, append-nil, take_a
 use Rattle.listing.specs.declared.page.Field.{Field}
 use Rattle.listing.specs.declared.page.Page.{Page}
 use Rattle.listing.specs.Listing.{ending}
-use Rattle.listing.specs.Pages.{bytes_of, written, cut}
+use Rattle.listing.specs.Pages.{bytes_of, written, fitting}
 
 -- what was cut off before stays off
 take_on : {X : Type 0} (n : ℕ) (a b : List X) → take n (take n a ++ b) ≡ take n (a ++ b)
@@ -13,12 +13,12 @@ take_on (suc n) [] b = refl
 take_on (suc n) (x ∷ a) b = ap (λ l. x ∷ l) (take_on n a b)
 
 -- one piece more on a page, and what is still to come
-pub cut_on : (before piece rest now : List ℕ) → now ≡ cut (before ++ piece) → cut (now ++ rest) ≡ cut (before ++ (piece ++ rest))
-cut_on before piece rest now e = ap (λ l. cut (l ++ rest)) e ∙ take_on 512 (before ++ piece) rest ∙ ap cut (append_assoc before piece rest)
+pub fitting_on : (before piece rest now : List ℕ) → now ≡ fitting (before ++ piece) → fitting (now ++ rest) ≡ fitting (before ++ (piece ++ rest))
+fitting_on before piece rest now e = ap (λ l. fitting (l ++ rest)) e ∙ take_on 512 (before ++ piece) rest ∙ ap fitting (append_assoc before piece rest)
 
 -- a page has room for all that it holds
-pub page_whole : (p : Page) → cut (written p ++ []) ≡ written p
-page_whole p = ap cut (append-nil (written p)) ∙ take_all 512 (written p) (simp length-take (omega (arith, p.text.within)))
+pub page_whole : (p : Page) → fitting (written p ++ []) ≡ written p
+page_whole p = ap fitting (append-nil (written p)) ∙ take_all 512 (written p) (simp length-take (omega (arith, p.text.within)))
 
 -- ---- the fields of a line from field n on
 

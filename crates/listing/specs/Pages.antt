@@ -13,5 +13,5 @@ abbrev pub written : Page → List ℕ
 written p = listed p.text
 
 -- as much as a page has room for
-abbrev pub cut : List ℕ → List ℕ
-cut bytes = take 512 bytes
+abbrev pub fitting : List ℕ → List ℕ
+fitting bytes = take 512 bytes

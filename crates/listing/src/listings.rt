@@ -6,7 +6,7 @@ ghost use Rattle.schedule.specs.Calls.{answer, after};
 ghost use Rattle.task.specs.Task.{task_of};
 ghost use Rattle.listing.specs.Laid.{laid};
 ghost use Rattle.listing.specs.Listing.{admission, task_line, task_lines, listed, listing, Verdicts};
-ghost use Rattle.listing.specs.Pages.{written, cut};
+ghost use Rattle.listing.specs.Pages.{written, fitting};
 ghost use Rattle.listing.specs.declared.refusal.ListingRefusal.TheVariants.{BufferTooSmall};
 
 use crate::page::Field::{Number, Word};
@@ -23,7 +23,7 @@ const ROOM: usize = 512;
 
 // Admits a task and writes its line. A refusal that names no task has 0 in its place, as the definition of a line has it.
 fn list_task<S: Supply>(dispatcher: &mut Dispatcher<S>, card: &Card, page: &mut Page)
-    ensures text { written page.new ≡ cut (written page.old ++ task_line (task_of card.now).id (answer (state_of S.Supply.row S.Supply.table dispatcher.old) (admission (task_of card.now)))) }
+    ensures text { written page.new ≡ fitting (written page.old ++ task_line (task_of card.now).id (answer (state_of S.Supply.row S.Supply.table dispatcher.old) (admission (task_of card.now)))) }
     ensures state { state_of S.Supply.row S.Supply.table dispatcher.new ≡ after (state_of S.Supply.row S.Supply.table dispatcher.old) (admission (task_of card.now)) }
 {
     let id = card.id();
@@ -38,7 +38,7 @@ fn list_task<S: Supply>(dispatcher: &mut Dispatcher<S>, card: &Card, page: &mut 
 
 // Admits tasks in turn and writes their lines.
 fn list_tasks<S: Supply>(dispatcher: &mut Dispatcher<S>, cards: &[Card], page: &mut Page)
-    ensures { written page.new ≡ cut (written page.old ++ task_lines (state_of S.Supply.row S.Supply.table dispatcher.old) (map task_of cards.now)) }
+    ensures { written page.new ≡ fitting (written page.old ++ task_lines (state_of S.Supply.row S.Supply.table dispatcher.old) (map task_of cards.now)) }
 {
     for card in cards {
         list_task(dispatcher, card, page);
@@ -47,7 +47,7 @@ fn list_tasks<S: Supply>(dispatcher: &mut Dispatcher<S>, cards: &[Card], page: &
 
 // The listing of a plan.
 fn plan_page(plan: &Plan) -> Page
-    ensures text { written result ≡ cut (listed (Ok (contents plan.now))) }
+    ensures text { written result ≡ fitting (listed (Ok (contents plan.now))) }
     ensures few { length (listed (Ok (contents plan.now))) ≤ 299 }
 {
     let mut page = Page::new();
@@ -61,7 +61,7 @@ fn plan_page(plan: &Plan) -> Page
 
 // The listing of a plan at fault.
 fn fault_page(fault: Fault) -> Page
-    ensures text { written result ≡ cut (listed (Err fault)) }
+    ensures text { written result ≡ fitting (listed (Err fault)) }
     ensures few { length (listed (Err fault)) ≤ 299 }
 {
     let mut page = Page::new();

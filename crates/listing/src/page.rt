@@ -1,7 +1,7 @@
 // The text of a listing, line by line.
 ghost use Rattle.std.specs.Prelude.{◌≡◌, [], ◌++◌, map};
 ghost use Rattle.listing.specs.Listing.{ending};
-ghost use Rattle.listing.specs.Pages.{bytes_of, written, cut};
+ghost use Rattle.listing.specs.Pages.{bytes_of, written, fitting};
 
 use fixed::FixedList;
 use itoa::Buffer;
@@ -41,7 +41,7 @@ impl Page {
 
     // A `write!` would do, but may fail by its contract, and a listing may not.
     fn put(&mut self, field: Field<'_>)
-        ensures { written self.new ≡ cut (written self.old ++ bytes_of field.entry) }
+        ensures { written self.new ≡ fitting (written self.old ++ bytes_of field.entry) }
     {
         match field {
             Field::Word(bytes) => self.text.fill_from(bytes),
@@ -51,7 +51,7 @@ impl Page {
 
     // Writes a line: its fields, with commas between them, and byte 10.
     pub(crate) fn put_line(&mut self, first: Field<'_>, others: &[Field<'_>])
-        ensures { written self.new ≡ cut (written self.old ++ (bytes_of first.entry ++ ending (map bytes_of others.now))) }
+        ensures { written self.new ≡ fitting (written self.old ++ (bytes_of first.entry ++ ending (map bytes_of others.now))) }
     {
         self.put(first);
         for field in others {

@@ -6,7 +6,7 @@ use Rattle.schedule.specs.Calls.{answer, after}
 use Rattle.schedule.specs.Numbers.{task_named}
 use Rattle.task.specs.Task.{task_of}
 use Rattle.listing.specs.Listing.{admission, task_line, yes_line, no_line}
-use Rattle.listing.specs.Pages.{written, cut}
+use Rattle.listing.specs.Pages.{written, fitting}
 use Rattle.listing.proofs.listings.list_task.Goals as goal
 
 pub returns-in-Ok : goal.returns-in-Ok
@@ -17,7 +17,7 @@ returns-in-Ok g c =
     let said : LevelIs c.in-Ok.level ≡ answer s (admission t) = c.in-Ok.ensures.answer ∙ ap (answer s) call in
     let line : yes_line c.id-id.result c.in-Ok.level ≡ task_line t.id (answer s (admission t)) = ap (λ i. yes_line i c.in-Ok.level) c.id-id.ensures ∙ ap (task_line t.id) said in
     record {
-      text = c.put_line.ensures ∙ ap (λ l. cut (written c.args.page.now ++ l)) line;
+      text = c.put_line.ensures ∙ ap (λ l. fitting (written c.args.page.now ++ l)) line;
       state = c.in-Ok.ensures.after ∙ ap (after s) call;
     }
 
@@ -30,6 +30,6 @@ returns-in-Err g c =
     let named : c.unwrap_or.result ≡ unwrap_or (task_named c.in-Err.refusal) 0 = c.unwrap_or.ensures ∙ ap (λ o. unwrap_or o 0) c.task.ensures in
     let line : no_line c.id-id.result c.unwrap_or.result ≡ task_line t.id (answer s (admission t)) = (λ i. no_line (c.id-id.ensures i) (named i)) ∙ ap (task_line t.id) said in
     record {
-      text = c.put_line-in-Err.ensures ∙ ap (λ l. cut (written c.args.page.now ++ l)) line;
+      text = c.put_line-in-Err.ensures ∙ ap (λ l. fitting (written c.args.page.now ++ l)) line;
       state = c.in-Err.ensures.after ∙ ap (after s) call;
     }

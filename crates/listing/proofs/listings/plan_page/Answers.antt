@@ -3,8 +3,8 @@ use mathlib.Core.Path.{fun_ext}
 use Rattle.plan.specs.Contents.{contents}
 use Rattle.schedule.specs.State.{fresh}
 use Rattle.listing.specs.Listing.{rack_line, task_lines, over_rack}
-use Rattle.listing.specs.Pages.{written, cut}
-use Rattle.listing.proofs.Laying.{cut_on}
+use Rattle.listing.specs.Pages.{written, fitting}
+use Rattle.listing.proofs.Laying.{fitting_on}
 use Rattle.listing.proofs.Lengths.{plan_short}
 use Rattle.listing.proofs.listings.plan_page.Goals as goal
 
@@ -16,7 +16,7 @@ returns c =
     record {
       text =
           c.list_tasks.ensures
-          ∙ cut_on [] rack _ (written c.put_line.new.self) (c.put_line.ensures ∙ ap (λ w. cut (w ++ rack)) c.new-page.ensures)
-          ∙ (λ i. cut (rack_line (c.row_count-rows.ensures.value i) (c.cycle-cycle.ensures.value i) ++ task_lines (state i) (c.cards.ensures.cards i)));
+          ∙ fitting_on [] rack _ (written c.put_line.new.self) (c.put_line.ensures ∙ ap (λ w. fitting (w ++ rack)) c.new-page.ensures)
+          ∙ (λ i. fitting (rack_line (c.row_count-rows.ensures.value i) (c.cycle-cycle.ensures.value i) ++ task_lines (state i) (c.cards.ensures.cards i)));
       few = plan_short k c.cards.result.now (omega (arith, c.row_count-rows.ensures.value, c.row_count-rows.ensures.few)) (omega (arith, c.cycle-cycle.ensures.value, c.cycle-cycle.ensures.few)) c.cards.ensures.cards c.cards.ensures.few;
     }
