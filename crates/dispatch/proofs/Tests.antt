@@ -19,14 +19,14 @@ unfolding charge
 charge_same n r q run period = rw (run, period)
 
 module _ (table : ℕ → ℕ → ℕ) (slot : ℕ → TaskRow) (k : ℕ) where
-  witness_is : (j : ℕ) → 1 ≤ j → j ≤ 8 → serves table slot k j ≡ true → ((x : ℕ) → suc x < j → serves table slot k (suc x) ≡ false) → witness table slot k ≡ j
+  pub witness_is : (j : ℕ) → 1 ≤ j → j ≤ 8 → serves table slot k j ≡ true → ((x : ℕ) → suc x < j → serves table slot k (suc x) ≡ false) → witness table slot k ≡ j
   unfolding witness
   witness_is zero one few yes' below = absurd (omega arith)
   witness_is (suc j) one few yes' below =
       ap level_from (least_is 8 (λ x. serves table slot k (suc x)) j (omega arith) (λ _. yes') (λ x h. below x (omega arith)))
       ∙ cond-true _ (suc j) 0 (lt-ltb j 8 (omega arith))
 
-  witness_none : ((x : ℕ) → suc x < 9 → serves table slot k (suc x) ≡ false) → witness table slot k ≡ 0
+  pub witness_none : ((x : ℕ) → suc x < 9 → serves table slot k (suc x) ≡ false) → witness table slot k ≡ 0
   unfolding witness
   witness_none below = ap level_from (least_is 8 (λ x. serves table slot k (suc x)) 8 (omega arith) (λ h. absurd (omega arith)) (λ x h. below x (omega arith)))
 

@@ -27,20 +27,20 @@ two n small = length-decimal-le 2 n (omega arith) small (omega arith)
 one : (n : ℕ) → n < 10 → length (decimal n) ≤ 1
 one n small = length-decimal-le 1 n (omega arith) small (omega arith)
 
-yes_short : (id level : ℕ) → id < 100 → level < 10 → length (yes_line id level) ≤ 9
+pub yes_short : (id level : ℕ) → id < 100 → level < 10 → length (yes_line id level) ≤ 9
 yes_short id level a b = simp length-append (omega (arith, two id a, one level b))
 
-no_short : (id task : ℕ) → id < 100 → task < 100 → length (no_line id task) ≤ 9
+pub no_short : (id task : ℕ) → id < 100 → task < 100 → length (no_line id task) ≤ 9
 no_short id task a b = simp length-append (omega (arith, two id a, two task b))
 
-rack_short : (rows cycle : ℕ) → rows < 10 → cycle < 1000 → length (rack_line rows cycle) ≤ 11
+pub rack_short : (rows cycle : ℕ) → rows < 10 → cycle < 1000 → length (rack_line rows cycle) ≤ 11
 rack_short rows cycle a b =
     simp length-append (omega (arith, one rows a, length-decimal-le 3 cycle (omega arith) b (omega arith)))
 
 ten : (n : ℕ) → n < 2 ^ 32 → length (decimal n) ≤ 10
 ten n fits = length-decimal-le 10 n (omega arith) (omega arith) (omega arith)
 
-fault_short : (cause line field : ℕ) → cause < 2 ^ 32 → line < 2 ^ 32 → field < 2 ^ 32 → length (fault_line cause line field) ≤ 39
+pub fault_short : (cause line field : ℕ) → cause < 2 ^ 32 → line < 2 ^ 32 → field < 2 ^ 32 → length (fault_line cause line field) ≤ 39
 fault_short cause line field a b c = simp length-append (omega (arith, ten cause a, ten line b, ten field c))
 
 -- ---- what an admission answers
@@ -73,7 +73,7 @@ line_by : (id : ℕ) (o : Option Refusal) (w : ℕ) → id < 32 → Named o → 
 line_by id None w below named few = yes_short id w (omega arith) (omega arith)
 line_by id (Some r) w below named few = no_short id (unwrap_or (task_named r) 0) (omega arith) (omega (arith, named))
 
-line_short : (s : State) (t : Task) → t.id < 32 → length (task_line t.id (answer s (admission t))) ≤ 9
+pub line_short : (s : State) (t : Task) → t.id < 32 → length (task_line t.id (answer s (admission t))) ≤ 9
 line_short s t below =
     line_by t.id (refusal s (admission t)) _ below (refused_names s t.id t.run t.period t.deadline) (witness_few s.table (put s.slot t.id (admitted t.run t.period t.deadline)) t.id)
 
@@ -95,5 +95,5 @@ plan_short c cards rows cycle are few =
       ap (λ ts. length (task_lines (over_rack c) ts)) are,
     )
 
-pub fault_fits : (f : Fault) → cause_number f.cause < 2 ^ 32 → f.line < 2 ^ 32 → f.field < 2 ^ 32 → length (listed (Err f)) ≤ 299
-fault_fits f a b d = omega (arith, fault_short (cause_number f.cause) f.line f.field a b d)
+pub fault_fits : (f : Fault) → cause_number f.cause < 2 ^ 32 → f.line < 2 ^ 32 → f.field < 2 ^ 32 → length (listed (Err f)) ≤ 39
+fault_fits f a b d = fault_short (cause_number f.cause) f.line f.field a b d

@@ -24,6 +24,7 @@ const ROOM: usize = 512;
 // Admits a task and writes its line. A refusal that names no task has 0 in its place, as the definition of a line has it.
 fn list_task<S: Supply>(dispatcher: &mut Dispatcher<S>, card: &Card, page: &mut Page)
     ensures text { written page.new ≡ fitting (written page.old ++ task_line (task_of card.now).id (answer (state_of S.Supply.row S.Supply.table dispatcher.old) (admission (task_of card.now)))) }
+    ensures few { length (task_line (task_of card.now).id (answer (state_of S.Supply.row S.Supply.table dispatcher.old) (admission (task_of card.now)))) ≤ 9 }
     ensures state { state_of S.Supply.row S.Supply.table dispatcher.new ≡ after (state_of S.Supply.row S.Supply.table dispatcher.old) (admission (task_of card.now)) }
 {
     let id = card.id();
@@ -62,7 +63,7 @@ fn plan_page(plan: &Plan) -> Page
 // The listing of a plan at fault.
 fn fault_page(fault: Fault) -> Page
     ensures text { written result ≡ fitting (listed (Err fault)) }
-    ensures few { length (listed (Err fault)) ≤ 299 }
+    ensures few { length (listed (Err fault)) ≤ 39 }
 {
     let mut page = Page::new();
     let cause = fault.cause.number();

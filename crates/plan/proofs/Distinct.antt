@@ -74,13 +74,13 @@ module _ (l : CardList) (k : Card) (no-task : has k.id (map (λ t. t.id) (tasks_
   free : has k.id (ids_in (listed l.cards)) ≡ false
   free = ap (has k.id) (sym (ids_same (listed l.cards))) ∙ no-task
 
-  room_left : length (listed l.cards) < 32
+  pub room_left : length (listed l.cards) < 32
   room_left = room (listed l.cards) k.id l.numbered k.numbered free
 
   pub added : {E : Type 0} (r : Result (Unit {0}) E) → is_ok r ≡ ltb (length (listed l.cards)) 32 → is_ok r ≡ true
   added r fits = fits ∙ lt-ltb _ 32 room_left
 
-  still_distinct : distinct (ids_in (listed l.cards ++ k ∷ [])) ≡ true
+  pub still_distinct : distinct (ids_in (listed l.cards ++ k ∷ [])) ≡ true
   still_distinct =
       ap distinct (map_push (λ c. c.id) (listed l.cards) k) ∙ distinct_push (ids_in (listed l.cards)) k.id l.numbered free
 

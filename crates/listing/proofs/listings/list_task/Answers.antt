@@ -7,6 +7,7 @@ use Rattle.schedule.specs.Numbers.{task_named}
 use Rattle.task.specs.Task.{task_of}
 use Rattle.listing.specs.Listing.{admission, task_line, yes_line, no_line}
 use Rattle.listing.specs.Pages.{written, fitting}
+use Rattle.listing.proofs.Lengths.{line_short}
 use Rattle.listing.proofs.listings.list_task.Goals as goal
 
 pub returns-in-Ok : goal.returns-in-Ok
@@ -18,6 +19,7 @@ returns-in-Ok g c =
     let line : yes_line c.id-id.result c.in-Ok.level ≡ task_line t.id (answer s (admission t)) = ap (λ i. yes_line i c.in-Ok.level) c.id-id.ensures ∙ ap (task_line t.id) said in
     record {
       text = c.put_line.ensures ∙ ap (λ l. fitting (written c.args.page.now ++ l)) line;
+      few = line_short s t c.args.card.now.numbered;
       state = c.in-Ok.ensures.after ∙ ap (after s) call;
     }
 
@@ -31,5 +33,6 @@ returns-in-Err g c =
     let line : no_line c.id-id.result c.unwrap_or.result ≡ task_line t.id (answer s (admission t)) = (λ i. no_line (c.id-id.ensures i) (named i)) ∙ ap (task_line t.id) said in
     record {
       text = c.put_line-in-Err.ensures ∙ ap (λ l. fitting (written c.args.page.now ++ l)) line;
+      few = line_short s t c.args.card.now.numbered;
       state = c.in-Err.ensures.after ∙ ap (after s) call;
     }
