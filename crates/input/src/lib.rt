@@ -38,9 +38,15 @@ pub fn fill_front(input: &mut impl Read, front: &mut Front) -> io::Result<()>
 pub fn read_front(input: &mut impl Read, text: &mut [u8; PLAN_ROOM]) -> io::Result<usize>
     ensures { IfOk result (λ n. n ≤ 8193) }
 {
-    let mut front = Front::new();
-    fill_front(input, &mut front)?;
-    let kept = front.bytes();
-    text[..kept.len()].copy_from_slice(kept);
-    Ok(kept.len())
+    let mut filled = 0;
+    while filled < PLAN_ROOM {
+        let more = input.read(&mut text[filled..])?;
+        if more == 0 {
+            return Ok(filled);
+        }
+        filled += more;
+    }
+    // there is room for no more: the rest is read and forgotten
+    fill_front(input, &mut Front::new())?;
+    Ok(filled)
 }

@@ -39,9 +39,6 @@ parts_some b (x ∷ xs) =
 
 -- ---- what a search for the first b finds
 
-pub none_before : (b : ℕ) (s : List ℕ) → cond (ltb (before b s) (length s)) (Some (before b s)) None ≡ None → length s ≤ before b s
-none_before b s e = grind (arith, nat_tests)
-
 pub before_or_all : (b : ℕ) (s : List ℕ) (found : Option ℕ) → found ≡ cond (ltb (before b s) (length s)) (Some (before b s)) None → unwrap_or found (length s) ≡ before b s
 before_or_all b s found e =
     let few : before b s ≤ length s = omega (arith, length-prefix_len (λ x. not (eqb x b)) s, length-take (before b s) s) in

@@ -22,7 +22,10 @@ pub fn find(s: &[u8], b: u8) -> usize
 pub fn cut(s: &[u8], b: u8) -> Option<(&[u8], &[u8])>
     ensures { Cut b s.now result }
 {
-    let n = s.iter().position(|x| *x == b)?;
+    let n = find(s, b);
+    if n >= s.len() {
+        return None;
+    }
     Some((&s[..n], &s[n + 1..]))
 }
 
