@@ -52,6 +52,6 @@ impl<P: Supply, Q: Supply> Supply for Joined<P, Q> {
     {
         let j = j.min(MAX_LEVEL);
         let n = n.min(MAX_LENGTH);
-        (0..j + 1).fold(0, |best, i| best.max(self.parting(j, n, i)))
+        (0..j + 1).map(|i| self.parting(j, n, i)).max().unwrap_or(0)
     }
 }

@@ -1,6 +1,8 @@
-use Rattle.std.proofs.Common.{ℕ, ◌+◌, max, refl, ap, ◌∙◌, add-one, arith, rules}
-use Rattle.std.proofs.lemmas.Iterator.{YieldsList-from_range}
-use Rattle.std.proofs.lemmas.Iterator.Consumers.{fold_from_yields_List}
+use Rattle.std.proofs.Common.{ℕ, ◌+◌, unwrap_or, refl, ap, ◌∙◌, add-one, arith, rules}
+use Rattle.std.proofs.lemmas.Iterator.{YieldsList-from_range, YieldsList-from_map}
+use Rattle.std.proofs.lemmas.Iterator.Consumers.{YieldsList-at, reduce_from_yields_List}
+use Rattle.std.proofs.lemmas.List.Folds.{max_of_map}
+use Rattle.std.specs.List.{range_with_len}
 use Rattle.supply.specs.Supplies.{greatest, parted}
 use Rattle.supply.specs.Windows.{parted_all}
 use Rattle.supply.proofs.Folded.{folded}
@@ -12,7 +14,7 @@ returns g c =
     let second = g.Q.Supply.table c.args.self.now.second in
     let h : ℕ → ℕ = parted first second c.min-j.result c.min-n.result in
     let most =
-    fold_from_yields_List _ (λ a x. max a (h x)) 0 c.fold.result c.fold.ensures.ran
-    (YieldsList-from_range 0 (c.min-j.result + 1) (c.min-j.result + 1) refl (omega arith)) (λ a x b q k. (search rules, search rules)) in
-    parted_all first second c.args.j c.args.n c.min-j.result c.min-n.result c.min-j.result c.fold.result c.min-j.ensures c.min-n.ensures refl
-    (most ∙ folded h (c.min-j.result + 1) ∙ ap (greatest h) (add-one c.min-j.result))
+    reduce_from_yields_List _ c.map.result c.max.result c.max.ensures.ran
+    (YieldsList-from_map _ h (YieldsList-at c.map.ensures.source (YieldsList-from_range 0 (c.min-j.result + 1) (c.min-j.result + 1) refl (omega arith))) c.map.ensures.closure (λ x r q k. search rules)) in
+    parted_all first second c.args.j c.args.n c.min-j.result c.min-n.result c.min-j.result c.unwrap_or.result c.min-j.ensures c.min-n.ensures refl
+    (c.unwrap_or.ensures ∙ ap (λ o. unwrap_or o 0) most ∙ max_of_map h (range_with_len 0 (c.min-j.result + 1)) ∙ folded h (c.min-j.result + 1) ∙ ap (greatest h) (add-one c.min-j.result))
