@@ -20,6 +20,10 @@ fitting_on before piece rest now e = ap (λ l. fitting (l ++ rest)) e ∙ take_o
 pub page_whole : (p : Page) → fitting (written p ++ []) ≡ written p
 page_whole p = ap fitting (append-nil (written p)) ∙ take_all 512 (written p) (simp length-take (omega (arith, p.text.within)))
 
+-- what fits is whole on an empty page
+pub on_empty : (before now text : List ℕ) → before ≡ [] → now ≡ fitting (before ++ text) → length text ≤ 299 → now ≡ text
+on_empty before now text empty e few = e ∙ ap (λ l. fitting (l ++ text)) empty ∙ take_all 512 text (omega (arith, few))
+
 -- ---- the fields of a line from field n on
 
 pub fields_more : (fields : List Field) (n : ℕ) (d : Field) → n < length fields → ending (map bytes_of (drop n fields)) ≡ 44 ∷ (bytes_of (get_or fields n d) ++ ending (map bytes_of (drop (n + 1) fields)))

@@ -1,5 +1,5 @@
 // The tasks of a plan are put to a dispatcher over its slot rack, one after another.
-ghost use Rattle.std.specs.Prelude.{◌≡◌, ◌++◌, ◌≤◌, map, length, IfOk, if◌then◌else◌, Ok, Err, nat_le};
+ghost use Rattle.std.specs.Prelude.{◌≡◌, [], ◌++◌, ◌≤◌, map, length, IfOk, if◌then◌else◌, Ok, Err, nat_le};
 ghost use Rattle.dispatch.specs.Dispatcher.{state_of};
 ghost use Rattle.plan.specs.Contents.{contents};
 ghost use Rattle.schedule.specs.Calls.{answer, after};
@@ -46,43 +46,39 @@ fn list_tasks<S: Supply>(dispatcher: &mut Dispatcher<S>, cards: &[Card], page: &
     }
 }
 
-// The listing of a plan.
-fn plan_page(plan: &Plan) -> Page
-    ensures text { written result ≡ fitting (listed (Ok (contents plan.now))) }
+// Writes the listing of a plan.
+fn list_plan(plan: &Plan, page: &mut Page)
+    ensures text { written page.new ≡ fitting (written page.old ++ listed (Ok (contents plan.now))) }
     ensures few { length (listed (Ok (contents plan.now))) ≤ 299 }
 {
-    let mut page = Page::new();
     let rows = plan.row_count() as u32;
     let cycle = plan.cycle() as u32;
     page.put_line(Word(b"rack"), &[Number(rows), Number(cycle)]);
     let mut dispatcher = Dispatcher::new(SlotRack::new(plan));
-    list_tasks(&mut dispatcher, plan.cards(), &mut page);
-    page
+    list_tasks(&mut dispatcher, plan.cards(), page);
 }
 
-// The listing of a plan at fault.
-fn fault_page(fault: Fault) -> Page
-    ensures text { written result ≡ fitting (listed (Err fault)) }
+// Writes the listing of a plan at fault.
+fn list_fault(fault: Fault, page: &mut Page)
+    ensures text { written page.new ≡ fitting (written page.old ++ listed (Err fault)) }
     ensures few { length (listed (Err fault)) ≤ 39 }
 {
-    let mut page = Page::new();
     let cause = fault.cause.number();
     page.put_line(
         Word(b"fault"),
         &[Number(cause), Number(fault.line), Number(fault.field)],
     );
-    page
 }
 
-// The listing of a plan text.
-fn page_of(text: &[u8]) -> Page
-    ensures text { written result ≡ listing text.now }
+// Writes the listing of a plan text on an empty page.
+fn list_text(text: &[u8], page: &mut Page)
+    ensures text { written page.old ≡ [] → written page.new ≡ listing text.now }
     ensures few { length (listing text.now) ≤ 299 }
 {
     let mut plan = Plan::idle();
     match plan.read(text) {
-        Ok(()) => plan_page(&plan),
-        Err(fault) => fault_page(fault),
+        Ok(()) => list_plan(&plan, page),
+        Err(fault) => list_fault(fault, page),
     }
 }
 
@@ -97,7 +93,8 @@ pub fn list(text: &[u8], out: &mut [u8]) -> Result<usize, ListingRefusal>
     if out.len() < ROOM {
         return Err(ListingRefusal::BufferTooSmall);
     }
-    let page = page_of(text);
+    let mut page = Page::new();
+    list_text(text, &mut page);
     let listing = page.bytes();
     out[..listing.len()].copy_from_slice(listing);
     Ok(listing.len())
